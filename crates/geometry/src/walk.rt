@@ -1,0 +1,45 @@
+// The chip's work over its blocks, for any geometry.
+ghost use mathlib.Core.Path.{_≡_};
+ghost use mathlib.Core.Bool.{cond, _&&_};
+ghost use Prim.Native.Nat.{ℕ, _+_, _<_, _≤_};
+ghost use lib.Dec.{leb, ltb};
+ghost use lib.ListN.{length, getD};
+ghost use Rattle.geometry.specs.Blocks.{block-of, filled};
+use crate::tables::Geometry;
+
+// The block that an address lies in; past the last block, the number of blocks.
+pub fn block_at<G: Geometry>(address: u32) -> usize
+    ensures { λ r. ⌜ r ≡ block-of (G·Geometry .plan .sizes) address ⌝ }
+{
+    let count = G::count();
+    let mut left = address;
+    for block in 0..count {
+        let width = G::width(block);
+        if left < width {
+            return block;
+        }
+        left -= width;
+    }
+    count
+}
+
+// Sets `width` cells from `from` on to `byte`, as far as there are cells.
+fn fill_range(cells: &mut [u8], from: u32, width: u32, byte: u8)
+    ensures { λ _. ⌜ ((k : ℕ) → k < length (now (cells .entry)) → getD (now (cells .exit)) k 0 ≡ cond (leb from k && ltb k (from + width)) byte (getD (now (cells .entry)) k 0)) ⌝ }
+{
+    let end = (from as usize + width as usize).min(cells.len());
+    for at in from as usize..end {
+        cells[at] = byte;
+    }
+}
+
+// Sets each block of the mask to `byte` throughout, as far as there are cells.
+pub fn fill<G: Geometry>(cells: &mut [u8], mask: u32, byte: u8)
+    ensures { λ _. ⌜ now (cells .exit) ≡ filled (G·Geometry .plan .sizes) mask byte (now (cells .entry)) ⌝ }
+{
+    for block in 0..G::count() {
+        if (mask >> block) % 2 == 1 {
+            fill_range(cells, G::start(block), G::width(block), byte);
+        }
+    }
+}
