@@ -1,0 +1,7 @@
+use borrow.Author.Needs.{needs}
+use Rattle.chip.specs.Resets.{after-reset}
+use Rattle.chip.proofs.chip.Chip.reset.Needs as need
+
+pub returns : need.returns
+unfolding after-reset
+returns c = search needs

@@ -1,0 +1,11 @@
+use borrow.Author.Needs.{needs}
+use Rattle.chip.specs.Writes.{heard, written}
+use Rattle.chip.proofs.chip.Chip.write.Needs as need
+
+pub returns-in-Break-inside : need.returns-in-Break-inside
+unfolding heard written
+returns-in-Break-inside c = search needs
+
+pub returns : need.returns
+unfolding heard written
+returns c = search needs
