@@ -1,2 +1,6 @@
+pub mod CellLaws
 pub mod Limits
+pub mod PassLaws
 pub mod Passing
+pub mod Worked
+pub mod WriteLaws

@@ -160,3 +160,11 @@ counted n f g h e =
     ap (λ (x : Flash). with-clock x ((x .clock + n) % 4294967296)) e
     ∙ ap (λ (c : ℕ). with-clock (steps n f) ((c + n) % 4294967296)) (steps-count n f)
     ∙ sym (passed-is n f h)
+
+-- the same whatever the count is
+pub passed-steps : (n : ℕ) (f : Flash) → passed n f ≡ with-clock (steps n f) (passed n f .clock)
+unfolding passed steps
+passed-steps zero f = refl
+passed-steps (suc n) f =
+    let c : ℕ = (f .clock + 1) % 4294967296 in
+    passed-steps n (tick f) ∙ ap (λ (g : Flash). with-clock g (passed n (tick f) .clock)) (steps-clock n (step f) c)

@@ -1,5 +1,7 @@
 pub mod Commands
+pub mod Examples
 pub mod Flash
+pub mod Laws
 pub mod Making
 pub mod Reads
 pub mod Resets

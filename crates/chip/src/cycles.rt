@@ -1,9 +1,10 @@
 // The chip's bus: write and read cycles, which take no time, the passing of time, and the reset pin.
 ghost use mathlib.Core.Path.{_≡_};
-ghost use Rattle.chip.specs.Flash.{view, with-cells};
+ghost use Rattle.chip.specs.Flash.{view};
 ghost use Rattle.chip.specs.Writes.{at-address, heard, written};
 ghost use Rattle.chip.specs.Reads.{answered, seen};
 ghost use Rattle.chip.specs.Times.{waited, after};
+ghost use Rattle.chip.specs.Laws.{Write-laws, Read-laws, Pass-laws};
 use crate::chip::Chip;
 use crate::fault::ChipFault;
 use crate::reads::flip;
@@ -30,6 +31,7 @@ impl Chip {
     pub fn write(&mut self, address: u32, byte: u8) -> Result<(), ChipFault>
         ensures answer { λ r. ⌜ r ≡ heard (view (now (self .entry))) address ⌝ }
         ensures chip { λ _. ⌜ view (now (self .exit)) ≡ written (view (now (self .entry))) address byte ⌝ }
+        ensures laws { λ _. ⌜ Write-laws ⌝ }
     {
         self.inside(address)?;
         self.state = self.heed(self.state, address, byte);
@@ -40,6 +42,7 @@ impl Chip {
     pub fn read(&mut self, address: u32) -> Result<u8, ChipFault>
         ensures answer { λ r. ⌜ r ≡ answered (view (now (self .entry))) address ⌝ }
         ensures chip { λ _. ⌜ view (now (self .exit)) ≡ seen (view (now (self .entry))) address ⌝ }
+        ensures laws { λ _. ⌜ Read-laws ⌝ }
     {
         self.inside(address)?;
         let byte = self.show(self.state, address);
@@ -51,6 +54,7 @@ impl Chip {
     pub fn pass(&mut self, n: u32) -> Result<(), ChipFault>
         ensures answer { λ r. ⌜ r ≡ waited n ⌝ }
         ensures chip { λ _. ⌜ view (now (self .exit)) ≡ after n (view (now (self .entry))) ⌝ }
+        ensures laws { λ _. ⌜ Pass-laws ⌝ }
     {
         if n > LONGEST {
             return Err(ChipFault {

@@ -7,6 +7,8 @@ ghost use Rattle.geometry.specs.Plans.{plan-of};
 ghost use Rattle.chip.specs.Setups.{between, in-limits, fit};
 ghost use Rattle.chip.specs.Flash.{view, size, blocks};
 ghost use Rattle.chip.specs.Making.{checked, fresh, made};
+ghost use Rattle.chip.specs.Laws.{All-sound};
+ghost use Rattle.chip.specs.Examples.{Worked-examples};
 use crate::chip::Chip;
 use crate::fault::ChipFault;
 use crate::setup::Setup;
@@ -80,7 +82,9 @@ impl Chip {
 
     // A chip on this memory; a dead one, of size 0, where `Setup::check` refuses it.
     pub fn new(setup: Setup, memory: Vec<u8>) -> Chip
-        ensures { λ r. ⌜ view r ≡ made setup (vec-items memory) ⌝ }
+        ensures chip { λ r. ⌜ view r ≡ made setup (vec-items memory) ⌝ }
+        ensures sound { λ _. ⌜ All-sound ⌝ }
+        ensures examples { λ _. ⌜ Worked-examples ⌝ }
     {
         let mut cells = memory;
         if setup.fits(cells.len()) {

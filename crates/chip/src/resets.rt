@@ -2,6 +2,7 @@
 ghost use mathlib.Core.Path.{_≡_};
 ghost use Rattle.chip.specs.Flash.{view, with-cells};
 ghost use Rattle.chip.specs.Resets.{broken-erase, broken, after-reset};
+ghost use Rattle.chip.specs.Laws.{Reset-laws};
 use crate::chip::Chip;
 use crate::state::Erase;
 use crate::state::Phase;
@@ -41,7 +42,8 @@ impl Chip {
 
     // A pulse on the reset pin. It takes no time.
     pub fn reset(&mut self)
-        ensures { λ _. ⌜ view (now (self .exit)) ≡ after-reset (view (now (self .entry))) ⌝ }
+        ensures chip { λ _. ⌜ view (now (self .exit)) ≡ after-reset (view (now (self .entry))) ⌝ }
+        ensures laws { λ _. ⌜ Reset-laws ⌝ }
     {
         self.break_off(self.state);
         self.state = READ_MODE;

@@ -6,7 +6,7 @@ use mathlib.Core.List.{List, [], _∷_}
 use mathlib.Core.Logic.{_⊎_, inl, inr}
 use native.Mathlib.Omega.{arith}
 use native.Mathlib.Numerals.{add-one}
-use lib.Dec.{eqb, ltb}
+use lib.Dec.{eqb, ltb, lit≤}
 use lib.ListN.{length, take, drop, getD}
 use Rattle.std.proofs.shelf.Lists.{drop-more, drop-all}
 use Rattle.std.proofs.shelf.Tests.{lt-ltb, le-ltb, cases-lt, and-parts, eqb-true, false≢true, cond-both}
@@ -115,3 +115,13 @@ every-plan P t b n d kind =
 
 pub every-laid-out : (kind : ℕ) → Laid-out (plan-of kind)
 every-laid-out kind = laid-out (plan-of kind) (every-plan Contiguous refl refl refl refl kind)
+
+pub every-total : (kind : ℕ) → total (plan-of kind .sizes) ≡ plan-of kind .size
+every-total kind = every-plan (λ (p : Plan). total (p .sizes) ≡ p .size) refl refl refl refl kind
+
+-- the block of an address inside the chip is one of 0 to 10
+pub every-block : (kind a : ℕ) → a < plan-of kind .size → block-of (plan-of kind .sizes) a < length (plan-of kind .sizes)
+every-block kind a h = block-within (plan-of kind .sizes) a (omega (arith, every-total kind))
+
+pub every-few : (kind : ℕ) → length (plan-of kind .sizes) ≤ 11
+every-few kind = every-plan (λ (p : Plan). length (p .sizes) ≤ 11) (lit≤ tt) (lit≤ tt) (lit≤ tt) (lit≤ tt) kind

@@ -6,11 +6,12 @@ use Rattle.std.proofs.shelf.Tests.{le-leb}
 use Rattle.chip.specs.Flash.{view}
 use Rattle.chip.specs.Times.{longest, after}
 use Rattle.chip.proofs.Passing.{counted}
+use Rattle.chip.proofs.PassLaws.{pass-laws}
 use Rattle.chip.proofs.chip.Chip.pass.Needs as need
 
 pub returns-then-n-gt-LONGEST : need.returns-then-n-gt-LONGEST
 unfolding after
-returns-then-n-gt-LONGEST c = search needs
+returns-then-n-gt-LONGEST c = record { answer = search needs; chip = search needs; laws = pass-laws }
 
 pub returns : need.returns
 unfolding after
@@ -19,4 +20,5 @@ returns c =
     let f = view (c .args .self .now) in
     record {
       answer = rw short;
-      chip = rw short (counted (c .args .n) f (view (c .run .last .self)) (c .args .self .now .counted) (c .run .ensures)) }
+      chip = rw short (counted (c .args .n) f (view (c .run .last .self)) (c .args .self .now .counted) (c .run .ensures));
+      laws = pass-laws }
