@@ -76,8 +76,9 @@ other-cell f at byte a n = getD-set-other (f .cells) at a (bitAnd (cell f at) by
 apart : (f : Flash) (at a : ℕ) → Fixed f a → protected f at ≡ false → worn f at ≡ false → a ≡ at → ⊥
 apart f at a x p w e =
     elim (or-cases (protected f a) (worn f a) x) [
-      inl t ↦ both-ways _ p (ap (protected f) (sym e) ∙ t)
-    | inr t ↦ both-ways _ w (ap (worn f) (sym e) ∙ t) ]
+      | inl t ↦ both-ways _ p (ap (protected f) (sym e) ∙ t)
+      | inr t ↦ both-ways _ w (ap (worn f) (sym e) ∙ t)
+    ]
 
 programmed-keeps : (f : Flash) (p : Program) (a : ℕ) → Fixed f a → cell (programmed f p) a ≡ cell f a
 programmed-keeps f p a x =
@@ -93,10 +94,11 @@ erased-keeps f e Begun a s i x =
   where
     out : spoils f (e .selected) ≡ false → Fixed f a → bit (erasable f (e .selected)) (block-of (blocks f) a) ≡ false
     out n x = elim (or-cases (protected f a) (worn f a) x) [
-        inl t ↦ without-bit (e .selected) (f .setup .protected) _ (block-number f a i) t
+      | inl t ↦ without-bit (e .selected) (f .setup .protected) _ (block-number f a i) t
       | inr t ↦
           let none : bitAnd (erasable f (e .selected)) (f .setup .worn) ≡ 0 = omega (arith, leb-false _ _ n) in
-          none-common (erasable f (e .selected)) (f .setup .worn) _ none t ]
+          none-common (erasable f (e .selected)) (f .setup .worn) _ none t
+    ]
 
 ended-keeps : (f : Flash) (s : State) (a : ℕ) → Sound f → inside f a ≡ true → Fixed f a → cell (ended f s) a ≡ cell f a
 ended-keeps f (Ready m p) a s i x = refl
@@ -140,7 +142,8 @@ tick-sound f s =
     record {
       limits = rw (like .0) (s .limits);
       whole = rw (like .0) (like .1 ∙ s .whole);
-      counted = omega arith }
+      counted = omega arith;
+    }
 
 pub passed-keeps : (n : ℕ) → Keeps-blocks (passed n)
 unfolding passed
@@ -156,15 +159,16 @@ by-phase f e Begun a s i x = spared f (without (erasable f (e .selected)) (f .se
   where
     out : Fixed f a → bit (without (erasable f (e .selected)) (f .setup .worn)) (block-of (blocks f) a) ≡ false
     out x = elim (or-cases (protected f a) (worn f a) x) [
-        inl t ↦ without-less (erasable f (e .selected)) (f .setup .worn) _ (without-bit (e .selected) (f .setup .protected) _ (block-number f a i) t)
-      | inr t ↦ without-bit (erasable f (e .selected)) (f .setup .worn) _ (block-number f a i) t ]
+      | inl t ↦ without-less (erasable f (e .selected)) (f .setup .worn) _ (without-bit (e .selected) (f .setup .protected) _ (block-number f a i) t)
+      | inr t ↦ without-bit (erasable f (e .selected)) (f .setup .worn) _ (block-number f a i) t
+    ]
 
 broken-keeps : (f : Flash) (s : State) (a : ℕ) → Sound f → inside f a ≡ true → Fixed f a → getD (broken f s) a 0 ≡ cell f a
 broken-keeps f (Ready m p) a s i x = refl
 broken-keeps f (Programming p) a s i x =
     cond-both (protected f (p .address) || worn f (p .address)) _ _ (λ (cells : List ℕ). getD cells a 0 ≡ cell f a) (λ _. refl)
     (λ n. let parts = or-parts (protected f (p .address)) (worn f (p .address)) n in
-          other-cell f (p .address) (p .byte) a (apart f (p .address) a x (parts .0) (parts .1)))
+    other-cell f (p .address) (p .byte) a (apart f (p .address) a x (parts .0) (parts .1)))
 broken-keeps f (Erasing e) a s i x = by-phase f e (e .phase) a s i x
 broken-keeps f (Suspending e w) a s i x = by-phase f e (e .phase) a s i x
 broken-keeps f (Suspended e) a s i x = by-phase f e (e .phase) a s i x
@@ -177,14 +181,16 @@ reset-keeps f s a i x = broken-keeps f (f .state) a s i x
 burnt-clears : (f : Flash) (at byte a b : ℕ) → bit (getD (burnt f at byte) a 0) b ≡ true → bit (cell f a) b ≡ true
 burnt-clears f at byte a b t =
     elim (cases-eq a at) [
-      inr n ↦ ap (λ (x : ℕ). bit x b) (sym (other-cell f at byte a n)) ∙ t
-    | inl e ↦ elim (cases-lt at (length (f .cells))) [
-        inl l ↦
-          let same : getD (burnt f at byte) a 0 ≡ bitAnd (cell f a) byte =
+      | inr n ↦ ap (λ (x : ℕ). bit x b) (sym (other-cell f at byte a n)) ∙ t
+      | inl e ↦ elim (cases-lt at (length (f .cells))) [
+        | inl l ↦
+            let same : getD (burnt f at byte) a 0 ≡ bitAnd (cell f a) byte =
             ap (λ (k : ℕ). getD (burnt f at byte) k 0) e ∙ getD-set-same (f .cells) at (bitAnd (cell f at) byte) 0 l
             ∙ ap (λ (k : ℕ). bitAnd (cell f k) byte) (sym e) in
-          and-parts (bit (cell f a) b) (bit byte b) (sym (bit-and (cell f a) byte b) ∙ ap (λ (x : ℕ). bit x b) (sym same) ∙ t) .0
-      | inr l ↦ ap (λ (cells : List ℕ). bit (getD cells a 0) b) (sym (set-past (f .cells) at (bitAnd (cell f at) byte) l)) ∙ t ] ]
+            and-parts (bit (cell f a) b) (bit byte b) (sym (bit-and (cell f a) byte b) ∙ ap (λ (x : ℕ). bit x b) (sym same) ∙ t) .0
+        | inr l ↦ ap (λ (cells : List ℕ). bit (getD cells a 0) b) (sym (set-past (f .cells) at (bitAnd (cell f at) byte) l)) ∙ t
+      ]
+    ]
 
 -- One step where no erase is under way clears bits at most, and begins no erase.
 Clears : Flash → Flash → Type 0
@@ -195,8 +201,10 @@ unfolding Clears
 programmed-clears f p =
     cond-both (protected f (p .address)) _ _ (Clears f) (λ _. (refl, λ a b t. t))
     (λ _. cond-both (worn f (p .address)) _ _ (Clears f) (λ _. (refl, λ a b t. t))
-    (λ _. (cond-both (needs-erase (cell f (p .address)) (p .byte)) _ _ (λ (s : State). in-erase s ≡ false) (λ _. refl) (λ _. refl),
-           λ a b t. burnt-clears f (p .address) (p .byte) a b t)))
+    (λ _. (
+      cond-both (needs-erase (cell f (p .address)) (p .byte)) _ _ (λ (s : State). in-erase s ≡ false) (λ _. refl) (λ _. refl),
+      λ a b t. burnt-clears f (p .address) (p .byte) a b t,
+    )))
 
 step-clears : (f : Flash) (s : State) → f .state ≡ s → in-erase s ≡ false → Clears f (step-by f (due s))
 unfolding Clears

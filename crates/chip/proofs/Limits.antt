@@ -27,7 +27,12 @@ limits s t =
     let erase = and-parts (leb 1 (s .erase)) (leb (s .erase) 10000000) (b .1) in
     let suspend = and-parts (leb 1 (s .suspend)) (leb (s .suspend) 15) (c .1) in
     record {
-      program-low = leb-true _ _ (program .0); program-high = leb-true _ _ (program .1);
-      erase-low = leb-true _ _ (erase .0); erase-high = leb-true _ _ (erase .1);
-      suspend-low = leb-true _ _ (suspend .0); suspend-high = leb-true _ _ (suspend .1);
-      protected-high = leb-true _ _ (d .1); worn-high = leb-true _ _ (e .1) }
+      program-low = leb-true _ _ (program .0);
+      program-high = leb-true _ _ (program .1);
+      erase-low = leb-true _ _ (erase .0);
+      erase-high = leb-true _ _ (erase .1);
+      suspend-low = leb-true _ _ (suspend .0);
+      suspend-high = leb-true _ _ (suspend .1);
+      protected-high = leb-true _ _ (d .1);
+      worn-high = leb-true _ _ (e .1);
+    }

@@ -90,25 +90,28 @@ course-end s (failed h) b f = absurd (both-ways _ f h)
 pub pass-laws : Pass-laws
 unfolding passed
 pass-laws = record {
-    none = λ f. refl;
-    one-more = λ n f. split n 1 f;
-    split = split;
-    counts = λ n f s. ap (λ (g : Flash). g .clock) (passed-is n f (s .counted));
-    keeps-blocks = passed-keeps;
-    only-clears = passed-clears;
-    ends = λ n f w b e. course-end _ (passed-course n f (works w)) b e;
-    failed = λ n f e. stays n f (failed-due (f .state) e) }
+  none = λ f. refl;
+  one-more = λ n f. split n 1 f;
+  split = split;
+  counts = λ n f s. ap (λ (g : Flash). g .clock) (passed-is n f (s .counted));
+  keeps-blocks = passed-keeps;
+  only-clears = passed-clears;
+  ends = λ n f w b e. course-end _ (passed-course n f (works w)) b e;
+  failed = λ n f e. stays n f (failed-due (f .state) e);
+}
 
 pub reset-laws : Reset-laws
 unfolding after-reset
 reset-laws = record {
-    reads = λ f. refl;
-    no-time = λ f. refl;
-    keeps-blocks = reset-keeps;
-    only-clears = reset-clears }
+  reads = λ f. refl;
+  no-time = λ f. refl;
+  keeps-blocks = reset-keeps;
+  only-clears = reset-clears;
+}
 
 pub all-sound : All-sound
 all-sound c = record {
-    limits = c .limits;
-    whole = sym (c .cells .ok .0) ∙ c .whole;
-    counted = c .counted }
+  limits = c .limits;
+  whole = sym (c .cells .ok .0) ∙ c .whole;
+  counted = c .counted;
+}

@@ -42,8 +42,9 @@ same-clock false f s = refl
 not-both : (low c b k : ℕ) → (low ≡ c → b ≡ k → ⊥) → (eqb low c && eqb b k) ≡ false
 not-both low c b k n =
     elim (cases-bool (eqb low c && eqb b k)) [
-      inl t ↦ let p = and-parts (eqb low c) (eqb b k) t in absurd (n (eqb-true low c (p .0)) (eqb-true b k (p .1)))
-    | inr t ↦ t ]
+      | inl t ↦ let p = and-parts (eqb low c) (eqb b k) t in absurd (n (eqb-true low c (p .0)) (eqb-true b k (p .1)))
+      | inr t ↦ t
+    ]
 
 -- what does not fit is given up
 gives-up : (place : Place) (a b : ℕ) → (Fits place a b → ⊥) → (b ≡ 0xF0 → ⊥) → decided place (a % 32768) b ≡ GiveUp
@@ -52,10 +53,12 @@ gives-up Start a b n r =
 gives-up Second a b n r =
     rw (ne-eqb b 0xF0 r, not-both (a % 32768) 0x2AAA b 0x55 (λ e k. n (subst (Fits Second a) (sym k) (second-write a e))))
 gives-up Command a b n r =
-    rw (ne-eqb b 0xF0 r,
-        not-both (a % 32768) 0x5555 b 0x90 (λ e k. n (subst (Fits Command a) (sym k) (to-identify a e))),
-        not-both (a % 32768) 0x5555 b 0xA0 (λ e k. n (subst (Fits Command a) (sym k) (to-program a e))),
-        not-both (a % 32768) 0x5555 b 0x80 (λ e k. n (subst (Fits Command a) (sym k) (to-erase a e))))
+    rw (
+      ne-eqb b 0xF0 r,
+      not-both (a % 32768) 0x5555 b 0x90 (λ e k. n (subst (Fits Command a) (sym k) (to-identify a e))),
+      not-both (a % 32768) 0x5555 b 0xA0 (λ e k. n (subst (Fits Command a) (sym k) (to-program a e))),
+      not-both (a % 32768) 0x5555 b 0x80 (λ e k. n (subst (Fits Command a) (sym k) (to-erase a e))),
+    )
 gives-up Data a b n r = absurd (n (any-byte a b))
 gives-up EraseStart a b n r =
     rw (ne-eqb b 0xF0 r, not-both (a % 32768) 0x5555 b 0xAA (λ e k. n (subst (Fits EraseStart a) (sym k) (third-write a e))))
@@ -108,34 +111,38 @@ state-after n f g e = ap (λ (x : Flash). x .state) (passed-steps n f ∙ ap (λ
 pub write-laws : Write-laws
 unfolding written reopened
 write-laws = record {
-    no-cell = λ f a b. same-cells (inside f a) f (heeded f (f .state) a b);
-    no-time = λ f a b. same-clock (inside f a) f (heeded f (f .state) a b);
-    given-up = λ f mode place s a b i n r.
+  no-cell = λ f a b. same-cells (inside f a) f (heeded f (f .state) a b);
+  no-time = λ f a b. same-clock (inside f a) f (heeded f (f .state) a b);
+  given-up = λ f mode place s a b i n r.
       write-in f (Ready mode place) s a b i ∙ ap (λ d. with-state f (obeyed f mode a b d)) (gives-up place a b n r);
-    back-to-read = λ f mode place s a i n.
+  back-to-read = λ f mode place s a i n.
       write-in f (Ready mode place) s a 0xF0 i ∙ ap (λ d. with-state f (obeyed f mode a 0xF0 d)) (resets place (a % 32768) n);
-    reads = λ f mode s x y z p q r. commanded f mode s x y z 0xF0 p q r;
-    identifies = λ f mode s x y z p q r. commanded f mode s x y z 0x90 p q r;
-    programs = λ f mode s x y z a b p q r i.
+  reads = λ f mode s x y z p q r. commanded f mode s x y z 0xF0 p q r;
+  identifies = λ f mode s x y z p q r. commanded f mode s x y z 0x90 p q r;
+  programs = λ f mode s x y z a b p q r i.
       ap (λ (g : Flash). written g a b) (commanded f mode s x y z 0xA0 p q r)
       ∙ write-in (with-state f (Ready mode Data)) (Ready mode Data) refl a b i;
-    erases = λ f mode s x y z u v a p q r t w i.
+  erases = λ f mode s x y z u v a p q r t w i.
       ap (λ (g : Flash). written (unlocked g u v) a 0x30) (commanded f mode s x y z 0x80 p q r)
       ∙ ap (λ (g : Flash). written (written g v 0x55) a 0x30) (command (with-state f (Ready mode EraseStart)) mode EraseStart refl u 0xAA 0x5555 (t .0) (t .1))
       ∙ ap (λ (g : Flash). written g a 0x30) (command (with-state f (Ready mode EraseSecond)) mode EraseSecond refl v 0x55 0x2AAA (w .0) (w .1))
       ∙ write-in (with-state f (Ready mode EraseBlock)) (Ready mode EraseBlock) refl a 0x30 i;
-    window = λ f e s w a i n h.
-      let g : Flash = with-state f (Erasing (reopened f e a)) in
-      (record { phase = Window; selected = reopened f e a .selected; left = 50 - n; toggle = e .toggle },
-       ap (λ (x : Flash). passed n x .state) (adds f e s w a i) ∙ state-after n g _ (until n 50 g refl h),
-       refl);
-    begins = λ f e s w a i.
-      let g : Flash = with-state f (Erasing (reopened f e a)) in
-      (record { phase = Begun; selected = reopened f e a .selected; left = erase-time f (reopened f e a .selected); toggle = e .toggle },
-       ap (λ (x : Flash). passed 50 x .state) (adds f e s w a i) ∙ state-after 50 g _ (over 50 g refl),
-       refl, refl);
-    failed = λ f byte toggle s a b n. unheeded f byte toggle s a b n (inside f a);
-    mended = λ f byte toggle s a i. write-in f (Failed byte toggle) s a 0xF0 i }
+  window = λ f e s w a i n h.
+      let g : Flash = with-state f (Erasing (reopened f e a)) in (
+        record { phase = Window; selected = reopened f e a .selected; left = 50 - n; toggle = e .toggle },
+        ap (λ (x : Flash). passed n x .state) (adds f e s w a i) ∙ state-after n g _ (until n 50 g refl h),
+        refl,
+      );
+  begins = λ f e s w a i.
+      let g : Flash = with-state f (Erasing (reopened f e a)) in (
+        record { phase = Begun; selected = reopened f e a .selected; left = erase-time f (reopened f e a .selected); toggle = e .toggle },
+        ap (λ (x : Flash). passed 50 x .state) (adds f e s w a i) ∙ state-after 50 g _ (over 50 g refl),
+        refl,
+        refl,
+      );
+  failed = λ f byte toggle s a b n. unheeded f byte toggle s a b n (inside f a);
+  mended = λ f byte toggle s a i. write-in f (Failed byte toggle) s a 0xF0 i;
+}
   where
     unheeded : (f : Flash) (byte : ℕ) (toggle : Bool) → f .state ≡ Failed byte toggle → (a b : ℕ) → (b ≡ 0xF0 → ⊥)
         → (t : Bool) → cond t (with-state f (heeded f (f .state) a b)) f ≡ f
@@ -148,9 +155,10 @@ write-laws = record {
 pub read-laws : Read-laws
 unfolding seen
 read-laws = record {
-    no-cell = λ f a. same-cells (inside f a) f (flipped (f .state));
-    no-time = λ f a. same-clock (inside f a) f (flipped (f .state));
-    ready = λ f mode place s a. unchanged f mode place s (inside f a) }
+  no-cell = λ f a. same-cells (inside f a) f (flipped (f .state));
+  no-time = λ f a. same-clock (inside f a) f (flipped (f .state));
+  ready = λ f mode place s a. unchanged f mode place s (inside f a);
+}
   where
     unchanged : (f : Flash) (mode : Mode) (place : Place) → f .state ≡ Ready mode place
         → (t : Bool) → cond t (with-state f (flipped (f .state))) f ≡ f

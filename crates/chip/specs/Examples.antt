@@ -52,26 +52,32 @@ table =
     -- 41h is programmed at 400h: two reads of the status, a third after 15 microseconds, and 1 microsecond later the cell.
     record {
       cycles = program 0x400 0x41 ++ read 0x400 ∷ read 0x400 ∷ wait 15 ∷ read 0x400 ∷ wait 1 ∷ read 0x400 ∷ [];
-      reads = 0x80 ∷ 0xC0 ∷ 0x80 ∷ 0x41 ∷ [] }
+      reads = 0x80 ∷ 0xC0 ∷ 0x80 ∷ 0x41 ∷ [];
+    }
     -- 41h over 40h has a 1 over a 0: it fails after 300 microseconds, and F0h gives read mode.
     ∷ record {
       cycles = program 0x400 0x40 ++ wait 16 ∷ program 0x400 0x41 ++ wait 300 ∷ read 0x400 ∷ read 0x400 ∷ write 0x0 0xF0 ∷ read 0x400 ∷ [];
-      reads = 0xA8 ∷ 0xE8 ∷ 0x40 ∷ [] }
+      reads = 0xA8 ∷ 0xE8 ∷ 0x40 ∷ [];
+    }
     -- Block 1 is erased: the window, the erasing, its last microsecond, and the erased cell.
     ∷ record {
       cycles = program 0x400 0x41 ++ wait 16 ∷ erase 0x400 ++ read 0x400 ∷ read 0x400 ∷ wait 50 ∷ read 0x400 ∷ wait 999 ∷ read 0x400 ∷ wait 1 ∷ read 0x400 ∷ [];
-      reads = 0x00 ∷ 0x40 ∷ 0x08 ∷ 0x48 ∷ 0xFF ∷ [] }
+      reads = 0x00 ∷ 0x40 ∷ 0x08 ∷ 0x48 ∷ 0xFF ∷ [];
+    }
     -- A second 30h, at 600h, after 49 microseconds: both blocks are erased 2,050 microseconds later, and not 2,049.
     ∷ record {
       cycles = program 0x400 0x41 ++ wait 16 ∷ program 0x600 0x42 ++ wait 16 ∷ erase 0x400 ++ wait 49 ∷ write 0x600 0x30 ∷ wait 2050 ∷ read 0x400 ∷ read 0x600 ∷ [];
-      reads = 0xFF ∷ 0xFF ∷ [] }
+      reads = 0xFF ∷ 0xFF ∷ [];
+    }
     ∷ record {
       cycles = program 0x400 0x41 ++ wait 16 ∷ program 0x600 0x42 ++ wait 16 ∷ erase 0x400 ++ wait 49 ∷ write 0x600 0x30 ∷ wait 2049 ∷ read 0x400 ∷ read 0x600 ∷ [];
-      reads = 0x08 ∷ 0x48 ∷ [] }
+      reads = 0x08 ∷ 0x48 ∷ [];
+    }
     -- B0h: after 14 microseconds two reads differ in the toggle bit, and 1 microsecond later they agree.
     ∷ record {
       cycles = erase 0x400 ++ write 0x400 0xB0 ∷ wait 14 ∷ read 0x400 ∷ read 0x400 ∷ wait 1 ∷ read 0x400 ∷ read 0x400 ∷ [];
-      reads = 0x00 ∷ 0x40 ∷ 0x80 ∷ 0x80 ∷ [] }
+      reads = 0x00 ∷ 0x40 ∷ 0x80 ∷ 0x80 ∷ [];
+    }
     ∷ []
 
 -- every example comes out as the table says

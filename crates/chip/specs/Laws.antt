@@ -93,11 +93,11 @@ pub record Write-laws : Type 0 where
   pub programs : (f : Flash) (mode : Mode) → f .state ≡ Ready mode Start
       → (x y z a b : ℕ) → First f x → Second-address f y → First f z → inside f a ≡ true
       → written (written (unlocked f x y) z 0xA0) a b
-        ≡ with-state f (Programming (record { address = a; byte = b; left = program-time f a b; toggle = false }))
+      ≡ with-state f (Programming (record { address = a; byte = b; left = program-time f a b; toggle = false }))
   pub erases : (f : Flash) (mode : Mode) → f .state ≡ Ready mode Start
       → (x y z u v a : ℕ) → First f x → Second-address f y → First f z → First f u → Second-address f v → inside f a ≡ true
       → written (unlocked (written (unlocked f x y) z 0x80) u v) a 0x30
-        ≡ with-state f (Erasing (record { phase = Window; selected = block-mask f a; left = 50; toggle = false }))
+      ≡ with-state f (Erasing (record { phase = Window; selected = block-mask f a; left = 50; toggle = false }))
   -- The window runs from the last 30h: however much of it was left, 49 microseconds later it is still open,
   -- and 50 microseconds later the erasing has begun.
   pub window : (f : Flash) (e : Erase) → f .state ≡ Erasing e → e .phase ≡ Window → (a : ℕ) → inside f a ≡ true

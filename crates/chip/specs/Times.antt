@@ -33,7 +33,7 @@ programmed f p =
     cond (protected f (p .address)) (with-state f read-mode)
     (cond (worn f (p .address)) (with-state f (Failed (p .byte) (p .toggle)))
     (with-cells f (burnt f (p .address) (p .byte))
-      (cond (needs-erase (cell f (p .address)) (p .byte)) (Failed (p .byte) (p .toggle)) read-mode)))
+    (cond (needs-erase (cell f (p .address)) (p .byte)) (Failed (p .byte) (p .toggle)) read-mode)))
 
 -- Whether one of the blocks that an erase works on is worn.
 abbrev pub spoils : Flash → ℕ → Bool

@@ -54,7 +54,7 @@ obeyed f mode a byte GiveUp = Ready mode Start
 abbrev pub interrupted : Flash → Erasure → Phase → ℕ → ℕ → State
 interrupted f e Window a byte =
     cond (eqb byte 0x30)
-      (Erasing (record { phase = Window; selected = bitOr (e .selected) (block-mask f a); left = 50; toggle = e .toggle }))
+    (Erasing (record { phase = Window; selected = bitOr (e .selected) (block-mask f a); left = 50; toggle = e .toggle }))
     (cond (eqb byte 0xB0) (Suspending e (f .setup .suspend)) read-mode)
 interrupted f e Begun a byte = cond (eqb byte 0xB0) (Suspending e (f .setup .suspend)) (Erasing e)
 

@@ -12,7 +12,11 @@ impl Chip {
         ensures { λ r. ⌜ r ≡ cell (view (now (self .entry))) address ⌝ }
     {
         let at = address as usize;
-        if at < self.cells.len() { self.cells[at] } else { 0 }
+        if at < self.cells.len() {
+            self.cells[at]
+        } else {
+            0
+        }
     }
 
     // Whether an address lies in a block of the mask.

@@ -6,6 +6,7 @@ use crate::state::Place;
 
 // The two addresses at which commands are written, in their low fifteen bits.
 const FIRST: u32 = 0x5555;
+
 const SECOND: u32 = 0x2AAA;
 
 // What a write means at a place of a sequence. `low` is the low fifteen bits of its address.

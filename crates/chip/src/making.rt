@@ -1,9 +1,9 @@
 // The making of a chip, and what can be asked of it.
 ghost use mathlib.Core.Path.{_≡_};
 ghost use mathlib.Core.Bool.{true};
-ghost use lib.ListN.{length, getD};
+ghost use lib.ListN.{length};
 ghost use Rattle.std.specs.Of.Vec.{vec-items, vec-len};
-ghost use Rattle.geometry.specs.Plans.{plan-of};
+ghost use Rattle.geometry.specs.Plans.{plan-of, block-at};
 ghost use Rattle.chip.specs.Setups.{between, in-limits, fit};
 ghost use Rattle.chip.specs.Flash.{view, size, blocks};
 ghost use Rattle.chip.specs.Making.{checked, fresh, made};
@@ -13,6 +13,7 @@ use crate::chip::Chip;
 use crate::fault::ChipFault;
 use crate::setup::Setup;
 use crate::time::READ_MODE;
+use geometry::Block;
 use refusal::Cause;
 
 // The last block that a mask may have.
@@ -48,7 +49,9 @@ impl Setup {
     fn fits(&self, len: usize) -> bool
         ensures { λ r. ⌜ r ≡ fit (now (self .entry)) len ⌝ }
     {
-        (self.kind < geometry::DEAD) & self.in_limits() & (len == geometry::size(self.kind) as usize)
+        (self.kind < geometry::DEAD)
+            & self.in_limits()
+            & (len == geometry::size(self.kind) as usize)
     }
 
     // Refuses numbers outside their limits and memory that has not the geometry's size.
@@ -106,6 +109,13 @@ impl Chip {
         ensures { λ r. ⌜ r ≡ length (blocks (view (now (self .entry)))) ⌝ }
     {
         geometry::count(self.setup.kind)
+    }
+
+    // Where a block begins and how many bytes it has; none where there is no such block.
+    pub fn block(&self, number: usize) -> Option<Block>
+        ensures { λ r. ⌜ r ≡ block-at (plan-of (now (self .entry) .setup .kind)) number ⌝ }
+    {
+        geometry::nth_block(self.setup.kind, number)
     }
 
     // The chip's device code.

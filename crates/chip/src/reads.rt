@@ -35,9 +35,21 @@ pub(crate) fn flip(state: State) -> State
     ensures { λ r. ⌜ r ≡ flipped state ⌝ }
 {
     match state {
-        State::Programming(p) => State::Programming(Program { toggle: !p.toggle, ..p }),
-        State::Erasing(e) => State::Erasing(Erase { toggle: !e.toggle, ..e }),
-        State::Suspending(e, wait) => State::Suspending(Erase { toggle: !e.toggle, ..e }, wait),
+        State::Programming(p) => State::Programming(Program {
+            toggle: !p.toggle,
+            ..p
+        }),
+        State::Erasing(e) => State::Erasing(Erase {
+            toggle: !e.toggle,
+            ..e
+        }),
+        State::Suspending(e, wait) => State::Suspending(
+            Erase {
+                toggle: !e.toggle,
+                ..e
+            },
+            wait,
+        ),
         State::Failed(byte, toggle) => State::Failed(byte, !toggle),
         quiet => quiet,
     }

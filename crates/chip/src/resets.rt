@@ -29,7 +29,9 @@ impl Chip {
     {
         match state {
             State::Programming(p) => {
-                if !self.lies_in(self.setup.protected, p.address) && !self.lies_in(self.setup.worn, p.address) {
+                if !self.lies_in(self.setup.protected, p.address)
+                    && !self.lies_in(self.setup.worn, p.address)
+                {
                     self.burn(p.address, p.byte);
                 }
             }

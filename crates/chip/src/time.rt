@@ -38,8 +38,14 @@ fn lower(state: State, n: u32) -> State
     ensures { λ r. ⌜ r ≡ lowered n state ⌝ }
 {
     match state {
-        State::Programming(p) => State::Programming(Program { left: p.left.saturating_sub(n), ..p }),
-        State::Erasing(e) => State::Erasing(Erase { left: e.left.saturating_sub(n), ..e }),
+        State::Programming(p) => State::Programming(Program {
+            left: p.left.saturating_sub(n),
+            ..p
+        }),
+        State::Erasing(e) => State::Erasing(Erase {
+            left: e.left.saturating_sub(n),
+            ..e
+        }),
         State::Suspending(e, wait) => State::Suspending(e, wait.saturating_sub(n)),
         lasting => lasting,
     }
@@ -73,7 +79,11 @@ impl Chip {
         } else {
             let fails = needs_erase(self.cell(p.address), p.byte);
             self.burn(p.address, p.byte);
-            self.state = if fails { State::Failed(p.byte, p.toggle) } else { READ_MODE };
+            self.state = if fails {
+                State::Failed(p.byte, p.toggle)
+            } else {
+                READ_MODE
+            };
         }
     }
 
@@ -88,8 +98,16 @@ impl Chip {
         ensures { λ r. ⌜ r ≡ erase-time (view (now (self .entry))) selected ⌝ }
     {
         let count = self.erasable(selected).count_ones();
-        let each = if self.spoils(selected) { FAILED_ERASE } else { self.setup.erase };
-        if count == 0 { REFUSED_ERASE } else { count * each }
+        let each = if self.spoils(selected) {
+            FAILED_ERASE
+        } else {
+            self.setup.erase
+        };
+        if count == 0 {
+            REFUSED_ERASE
+        } else {
+            count * each
+        }
     }
 
     fn end_erase(&mut self, e: Erase, phase: Phase)
@@ -98,7 +116,11 @@ impl Chip {
         match phase {
             Phase::Window => {
                 let left = self.erase_time(e.selected);
-                self.state = State::Erasing(Erase { phase: Phase::Erasing, left, ..e });
+                self.state = State::Erasing(Erase {
+                    phase: Phase::Erasing,
+                    left,
+                    ..e
+                });
             }
             Phase::Erasing => {
                 if self.spoils(e.selected) {

@@ -91,7 +91,12 @@ impl Chip {
         ensures { λ r. ⌜ r ≡ heeded (view (now (self .entry))) state address byte ⌝ }
     {
         match state {
-            State::Ready(mode, place) => self.obey(mode, address, byte, decide(place, address % 0x8000, byte)),
+            State::Ready(mode, place) => self.obey(
+                mode,
+                address,
+                byte,
+                decide(place, address % 0x8000, byte),
+            ),
             State::Erasing(erase) => self.interrupt(erase, erase.phase, address, byte),
             State::Suspended(erase) if byte == 0x30 => State::Erasing(erase),
             State::Failed(_, _) if byte == 0xF0 => State::Ready(Mode::Read, Place::Start),

@@ -19,7 +19,7 @@ digit-and (suc (suc x)) y h k = absurd (omega arith)
 pub bit-and : (m n b : ℕ) → bit (bitAnd m n) b ≡ (bit m b && bit n b)
 bit-and m n b =
     let e : bitAnd m n / 2 ^ b % 2 ≡ bitAnd (m / 2 ^ b % 2) (n / 2 ^ b % 2) =
-      ap (λ (x : ℕ). x % 2) (and-shr m n b) ∙ and-mod (m / 2 ^ b) (n / 2 ^ b) 1 in
+    ap (λ (x : ℕ). x % 2) (and-shr m n b) ∙ and-mod (m / 2 ^ b) (n / 2 ^ b) 1 in
     ap (λ (x : ℕ). eqb x 1) e ∙ digit-and (m / 2 ^ b % 2) (n / 2 ^ b % 2) (omega arith) (omega arith)
 
 digit-not : (x : ℕ) → x < 2 → eqb (bitXor x 1) 1 ≡ not (eqb x 1)
@@ -46,5 +46,5 @@ pub bit-not : (m b : ℕ) → b < 11 → bit (bitXor m 0x7FF) b ≡ not (bit m b
 bit-not m b h =
     let one : 0x7FF / 2 ^ b % 2 ≡ 1 = eqb-true _ _ (at-below 11 (λ (i : ℕ). eqb (0x7FF / 2 ^ i % 2) 1) refl b h) in
     let e : bitXor m 0x7FF / 2 ^ b % 2 ≡ bitXor (m / 2 ^ b % 2) (0x7FF / 2 ^ b % 2) =
-      ap (λ (x : ℕ). x % 2) (xor-shr m 0x7FF b) ∙ xor-mod (m / 2 ^ b) (0x7FF / 2 ^ b) 1 in
+    ap (λ (x : ℕ). x % 2) (xor-shr m 0x7FF b) ∙ xor-mod (m / 2 ^ b) (0x7FF / 2 ^ b) 1 in
     ap (λ (x : ℕ). eqb x 1) (e ∙ ap (bitXor (m / 2 ^ b % 2)) one) ∙ digit-not (m / 2 ^ b % 2) (omega arith)

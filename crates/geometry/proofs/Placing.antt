@@ -30,18 +30,21 @@ in-block (w ∷ ws) k zero e l =
     elim (cases-lt k w) [ inl h ↦ (omega arith, omega arith) | inr h ↦ absurd (omega (arith, rw (le-ltb k w h) at e)) ]
 in-block (w ∷ ws) k (suc b) e l =
     elim (cases-lt k w) [
-      inl h ↦ absurd (omega (arith, rw (lt-ltb k w h) at e))
-    | inr h ↦
-        let f : 1 + block-of ws (k - w) ≡ suc b = rw (le-ltb k w h) at e in
-        let ih : (start-of ws b ≤ k - w) × (k - w < start-of ws b + getD ws b 0) = in-block ws (k - w) b (omega arith) (omega arith) in
-        (omega (arith, ih .0), omega (arith, ih .1)) ]
+      | inl h ↦ absurd (omega (arith, rw (lt-ltb k w h) at e))
+      | inr h ↦
+          let f : 1 + block-of ws (k - w) ≡ suc b = rw (le-ltb k w h) at e in
+          let ih : (start-of ws b ≤ k - w) × (k - w < start-of ws b + getD ws b 0) = in-block ws (k - w) b (omega arith) (omega arith) in
+          (omega (arith, ih .0), omega (arith, ih .1))
+    ]
 
 -- An address below the end of the last block lies in a block, and no other address does.
 pub block-within : (sizes : List ℕ) (k : ℕ) → k < total sizes → block-of sizes k < length sizes
 block-within [] k h = absurd (omega arith)
 block-within (w ∷ ws) k h =
-    elim (cases-lt k w) [ inl l ↦ rw (lt-ltb k w l) (omega arith)
-                        | inr l ↦ rw (le-ltb k w l) (omega (arith, block-within ws (k - w) (omega arith))) ]
+    elim (cases-lt k w) [
+      | inl l ↦ rw (lt-ltb k w l) (omega arith)
+      | inr l ↦ rw (le-ltb k w l) (omega (arith, block-within ws (k - w) (omega arith)))
+    ]
 
 pub block-le : (sizes : List ℕ) (k : ℕ) → block-of sizes k ≤ length sizes
 block-le [] k = omega arith
@@ -89,12 +92,13 @@ laid-out p t =
       next = λ b l. omega (arith, at (b + 1) l, at b (omega arith), start-next (p .sizes) b (omega arith));
       last = λ b e. omega (arith, at b (omega arith), start-end (p .sizes) b e, end);
       some = λ a h.
-        let l : block-of (p .sizes) a < length (p .sizes) = block-within (p .sizes) a (omega arith) in
-        let i = in-block (p .sizes) a (block-of (p .sizes) a) refl l in
-        (block-of (p .sizes) a, l, omega (arith, i .0, at _ l), omega (arith, i .1, at _ l));
+          let l : block-of (p .sizes) a < length (p .sizes) = block-within (p .sizes) a (omega arith) in
+          let i = in-block (p .sizes) a (block-of (p .sizes) a) refl l in
+          (block-of (p .sizes) a, l, omega (arith, i .0, at _ l), omega (arith, i .1, at _ l));
       one = λ a b c lb lc sb eb sc ec.
-        sym (block-is (p .sizes) a b lb (omega (arith, at b lb)) (omega (arith, at b lb)))
-        ∙ block-is (p .sizes) a c lc (omega (arith, at c lc)) (omega (arith, at c lc)) }
+          sym (block-is (p .sizes) a b lb (omega (arith, at b lb)) (omega (arith, at b lb)))
+          ∙ block-is (p .sizes) a c lc (omega (arith, at c lc)) (omega (arith, at c lc));
+    }
 
 -- The walk from block to block: at block i, with `left` the address less the sizes of the blocks before.
 pub walk-here : (sizes : List ℕ) (i left : ℕ) → i < length sizes → left < getD sizes i 0 → block-of (drop i sizes) left ≡ 0

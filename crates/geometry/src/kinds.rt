@@ -1,11 +1,12 @@
 // The geometries by a plain number, which is what a chip keeps: each call goes to the one text that is generic over them.
 ghost use mathlib.Core.Path.{_≡_};
 ghost use Prim.Native.Nat.{ℕ, _≤_};
-ghost use lib.ListN.{length, getD};
+ghost use lib.ListN.{length};
 ghost use Rattle.geometry.specs.Blocks.{block-of, filled};
-ghost use Rattle.geometry.specs.Plans.{plan-of, Laid-out};
+ghost use Rattle.geometry.specs.Plans.{plan-of, block-at, Laid-out};
 use crate::tables::Bench;
 use crate::tables::BenchGeometry;
+use crate::tables::Block;
 use crate::tables::Bottom;
 use crate::tables::BottomGeometry;
 use crate::tables::Dead;
@@ -62,27 +63,15 @@ pub fn count(kind: u8) -> usize
     }
 }
 
-// Where a block begins; 0 where there is no such block.
-pub fn start(kind: u8, block: usize) -> u32
-    ensures { λ r. ⌜ r ≡ getD (plan-of kind .starts) block 0 ⌝ }
+// Where a block begins and how many bytes it has; none where there is no such block.
+pub fn nth_block(kind: u8, number: usize) -> Option<Block>
+    ensures { λ r. ⌜ r ≡ block-at (plan-of kind) number ⌝ }
 {
     match kind {
-        TOP => Top::start(block),
-        BOTTOM => Bottom::start(block),
-        BENCH => Bench::start(block),
-        _ => Dead::start(block),
-    }
-}
-
-// A block's size; 0 where there is no such block.
-pub fn width(kind: u8, block: usize) -> u32
-    ensures { λ r. ⌜ r ≡ getD (plan-of kind .sizes) block 0 ⌝ }
-{
-    match kind {
-        TOP => Top::width(block),
-        BOTTOM => Bottom::width(block),
-        BENCH => Bench::width(block),
-        _ => Dead::width(block),
+        TOP => walk::nth_block::<Top>(number),
+        BOTTOM => walk::nth_block::<Bottom>(number),
+        BENCH => walk::nth_block::<Bench>(number),
+        _ => walk::nth_block::<Dead>(number),
     }
 }
 

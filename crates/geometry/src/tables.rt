@@ -3,13 +3,24 @@ ghost use Prim.Native.Nat.{_≤_};
 ghost use lib.ListN.{length, getD};
 ghost use Rattle.geometry.specs.Plans.{Plan, top, bottom, bench, dead, Contiguous};
 
+// A block: where it begins, and how many bytes it has.
+#[derive(Clone, Copy)]
+pub struct Block {
+    pub start: u32,
+    pub size: u32,
+}
+
 // What a geometry brings. The methods hand out its constants; they are what ties the constants to the plan, so that
 // code generic over a geometry knows what it is given.
 pub trait Geometry {
     const SIZE: u32;
+
     const CODE: u8;
+
     const BLOCKS: usize;
+
     const STARTS: [u32; 11];
+
     const SIZES: [u32; 11];
 
     ghost plan: { Plan };
@@ -43,13 +54,37 @@ pub struct Top;
 
 pub impl Geometry for Top as TopGeometry {
     const SIZE: u32 = 524288;
+
     const CODE: u8 = 0x3B;
+
     const BLOCKS: usize = 11;
+
     const STARTS: [u32; 11] = [
-        0, 65536, 131072, 196608, 262144, 327680, 393216, 458752, 491520, 499712, 507904,
+        0,
+        65536,
+        131072,
+        196608,
+        262144,
+        327680,
+        393216,
+        458752,
+        491520,
+        499712,
+        507904,
     ];
+
     const SIZES: [u32; 11] = [
-        65536, 65536, 65536, 65536, 65536, 65536, 65536, 32768, 8192, 8192, 16384,
+        65536,
+        65536,
+        65536,
+        65536,
+        65536,
+        65536,
+        65536,
+        32768,
+        8192,
+        8192,
+        16384,
     ];
 
     ghost plan = { top };
@@ -67,11 +102,19 @@ pub impl Geometry for Top as TopGeometry {
     }
 
     fn start(block: usize) -> u32 {
-        if block < Self::BLOCKS { Self::STARTS[block] } else { 0 }
+        if block < Self::BLOCKS {
+            Self::STARTS[block]
+        } else {
+            0
+        }
     }
 
     fn width(block: usize) -> u32 {
-        if block < Self::BLOCKS { Self::SIZES[block] } else { 0 }
+        if block < Self::BLOCKS {
+            Self::SIZES[block]
+        } else {
+            0
+        }
     }
 }
 
@@ -80,13 +123,37 @@ pub struct Bottom;
 
 pub impl Geometry for Bottom as BottomGeometry {
     const SIZE: u32 = 524288;
+
     const CODE: u8 = 0xBA;
+
     const BLOCKS: usize = 11;
+
     const STARTS: [u32; 11] = [
-        0, 16384, 24576, 32768, 65536, 131072, 196608, 262144, 327680, 393216, 458752,
+        0,
+        16384,
+        24576,
+        32768,
+        65536,
+        131072,
+        196608,
+        262144,
+        327680,
+        393216,
+        458752,
     ];
+
     const SIZES: [u32; 11] = [
-        16384, 8192, 8192, 32768, 65536, 65536, 65536, 65536, 65536, 65536, 65536,
+        16384,
+        8192,
+        8192,
+        32768,
+        65536,
+        65536,
+        65536,
+        65536,
+        65536,
+        65536,
+        65536,
     ];
 
     ghost plan = { bottom };
@@ -104,11 +171,19 @@ pub impl Geometry for Bottom as BottomGeometry {
     }
 
     fn start(block: usize) -> u32 {
-        if block < Self::BLOCKS { Self::STARTS[block] } else { 0 }
+        if block < Self::BLOCKS {
+            Self::STARTS[block]
+        } else {
+            0
+        }
     }
 
     fn width(block: usize) -> u32 {
-        if block < Self::BLOCKS { Self::SIZES[block] } else { 0 }
+        if block < Self::BLOCKS {
+            Self::SIZES[block]
+        } else {
+            0
+        }
     }
 }
 
@@ -117,12 +192,38 @@ pub struct Bench;
 
 pub impl Geometry for Bench as BenchGeometry {
     const SIZE: u32 = 32768;
+
     const CODE: u8 = 0xBA;
+
     const BLOCKS: usize = 11;
+
     const STARTS: [u32; 11] = [
-        0, 1024, 1536, 2048, 4096, 8192, 12288, 16384, 20480, 24576, 28672,
+        0,
+        1024,
+        1536,
+        2048,
+        4096,
+        8192,
+        12288,
+        16384,
+        20480,
+        24576,
+        28672,
     ];
-    const SIZES: [u32; 11] = [1024, 512, 512, 2048, 4096, 4096, 4096, 4096, 4096, 4096, 4096];
+
+    const SIZES: [u32; 11] = [
+        1024,
+        512,
+        512,
+        2048,
+        4096,
+        4096,
+        4096,
+        4096,
+        4096,
+        4096,
+        4096,
+    ];
 
     ghost plan = { bench };
 
@@ -139,11 +240,19 @@ pub impl Geometry for Bench as BenchGeometry {
     }
 
     fn start(block: usize) -> u32 {
-        if block < Self::BLOCKS { Self::STARTS[block] } else { 0 }
+        if block < Self::BLOCKS {
+            Self::STARTS[block]
+        } else {
+            0
+        }
     }
 
     fn width(block: usize) -> u32 {
-        if block < Self::BLOCKS { Self::SIZES[block] } else { 0 }
+        if block < Self::BLOCKS {
+            Self::SIZES[block]
+        } else {
+            0
+        }
     }
 }
 
@@ -152,9 +261,13 @@ pub struct Dead;
 
 pub impl Geometry for Dead as DeadGeometry {
     const SIZE: u32 = 0;
+
     const CODE: u8 = 0;
+
     const BLOCKS: usize = 0;
+
     const STARTS: [u32; 11] = [0; 11];
+
     const SIZES: [u32; 11] = [0; 11];
 
     ghost plan = { dead };
@@ -172,10 +285,18 @@ pub impl Geometry for Dead as DeadGeometry {
     }
 
     fn start(block: usize) -> u32 {
-        if block < Self::BLOCKS { Self::STARTS[block] } else { 0 }
+        if block < Self::BLOCKS {
+            Self::STARTS[block]
+        } else {
+            0
+        }
     }
 
     fn width(block: usize) -> u32 {
-        if block < Self::BLOCKS { Self::SIZES[block] } else { 0 }
+        if block < Self::BLOCKS {
+            Self::SIZES[block]
+        } else {
+            0
+        }
     }
 }

@@ -5,7 +5,23 @@ ghost use Prim.Native.Nat.{ℕ, _+_, _<_, _≤_};
 ghost use lib.Dec.{leb, ltb};
 ghost use lib.ListN.{length, getD};
 ghost use Rattle.geometry.specs.Blocks.{block-of, filled};
+ghost use Rattle.geometry.specs.Plans.{block-at};
+use crate::tables::Block;
 use crate::tables::Geometry;
+
+// Where a block begins and how many bytes it has; none where there is no such block.
+pub fn nth_block<G: Geometry>(number: usize) -> Option<Block>
+    ensures { λ r. ⌜ r ≡ block-at (G·Geometry .plan) number ⌝ }
+{
+    if number < G::count() {
+        Some(Block {
+            start: G::start(number),
+            size: G::width(number),
+        })
+    } else {
+        None
+    }
+}
 
 // The block that an address lies in; past the last block, the number of blocks.
 pub fn block_at<G: Geometry>(address: u32) -> usize

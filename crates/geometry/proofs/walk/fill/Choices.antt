@@ -10,5 +10,5 @@ abbrev pub Inv-loop-block : given.InvT-loop-block
 Inv-loop-block g l =
     (k : ℕ) → k < length (l .entry .cells)
     → getD (l .cells) k 0
-      ≡ cond (ltb (block-of (g .G·Geometry .plan .sizes) k) (l .block) && bit (l .mask) (block-of (g .G·Geometry .plan .sizes) k))
-        (l .byte) (getD (l .entry .cells) k 0)
+    ≡ cond (ltb (block-of (g .G·Geometry .plan .sizes) k) (l .block) && bit (l .mask) (block-of (g .G·Geometry .plan .sizes) k))
+    (l .byte) (getD (l .entry .cells) k 0)

@@ -19,7 +19,8 @@ returns-then-n-left c =
     let e : due (f .state) ≡ Some (c .in-Some .left) = cc in
     record {
       same = until (c .args .n) (c .in-Some .left) f e (c .if-n-left .taken) ∙ ap (with-state f) (sym (c .lower-self .ensures)) ∙ sym (steps-none _);
-      less = λ h. h }
+      less = λ h. h;
+    }
 
 pub returns : need.returns
 returns c =
@@ -30,6 +31,7 @@ returns c =
     let n : c .args .n ≡ left + rest = omega (arith, c .if-n-left .left) in
     record {
       same =
-        ap (λ (m : ℕ). steps m f) n ∙ steps-split left rest f ∙ ap (steps rest) (over left f e)
-        ∙ ap (steps rest) (sym (c .end .ensures));
-      less = λ h. omega (arith, due-positive (f .state) left e) }
+          ap (λ (m : ℕ). steps m f) n ∙ steps-split left rest f ∙ ap (steps rest) (over left f e)
+          ∙ ap (steps rest) (sym (c .end .ensures));
+      less = λ h. omega (arith, due-positive (f .state) left e);
+    }

@@ -12,5 +12,5 @@ mul-result c =
     let l = limits (s .setup) (s .limits) in
     let few : ones (c .erasable-count .result) ≤ 32 = ones-le 32 _ (c .erasable-count .ok) in
     let each : c .if-spoils .each ≤ 10000000 =
-      elim (c .if-spoils .came) [ then-spoils w ↦ omega (arith, w .each-is) | else-spoils w ↦ omega (arith, w .each-is) ] in
+    elim (c .if-spoils .came) [ then-spoils w ↦ omega (arith, w .each-is) | else-spoils w ↦ omega (arith, w .each-is) ] in
     omega (arith, mul-le _ _ 32 10000000 few each)

@@ -15,7 +15,7 @@ returns c =
     let s = c .args .self .now in
     let v = s .cells in
     let e : c .fill .last .cells ≡ filled (blocks (view s)) (c .args .mask) (c .args .byte) (vec-items v) =
-      rw (c .as-mut-slice .ensures .value) at (c .fill .ensures) in
+    rw (c .as-mut-slice .ensures .value) at (c .fill .ensures) in
     let n : length (c .fill .last .cells) ≡ vec-len v =
-      rw e (length-filled (blocks (view s)) (c .args .mask) (c .args .byte) (vec-items v) ∙ omega (arith, v .ok .0)) in
+    rw e (length-filled (blocks (view s)) (c .args .mask) (c .args .byte) (vec-items v) ∙ omega (arith, v .ok .0)) in
     ap (λ (cells : List ℕ). with-cells (view s) cells (s .state)) (refilled-is v (c .fill .last .cells) n ∙ e)

@@ -26,4 +26,6 @@ returns c =
     let no-fits : fit (c .args .setup) (length (vec-items v)) ≡ false = ap (fit (c .args .setup)) len ∙ sym (c .fits-2 .ensures) ∙ c .if-fits .left in
     record {
       chip = rw no-fits (c .fresh-2 .ensures ∙ ap (fresh no-chip) (c .clear .ensures .items));
-      sound = all-sound; examples = worked-examples }
+      sound = all-sound;
+      examples = worked-examples;
+    }

@@ -21,4 +21,5 @@ returns c =
     record {
       answer = rw short;
       chip = rw short (counted (c .args .n) f (view (c .run .last .self)) (c .args .self .now .counted) (c .run .ensures));
-      laws = pass-laws }
+      laws = pass-laws;
+    }
