@@ -13,6 +13,19 @@ use refusal::Cause;
 // The longest time, in microseconds, that may pass in one call.
 const LONGEST: u32 = 1_000_000_000;
 
+fn short_enough(n: u32) -> Result<(), ChipFault>
+    ensures { λ r. ⌜ r ≡ waited n ⌝ }
+{
+    if n <= LONGEST {
+        Ok(())
+    } else {
+        Err(ChipFault {
+            cause: Cause::TimeTooLong,
+            place: n,
+        })
+    }
+}
+
 impl Chip {
     fn inside(&self, address: u32) -> Result<(), ChipFault>
         ensures { λ r. ⌜ r ≡ at-address (view (now (self .entry))) address tt ⌝ }
@@ -56,14 +69,9 @@ impl Chip {
         ensures chip { λ _. ⌜ view (now (self .exit)) ≡ after n (view (now (self .entry))) ⌝ }
         ensures laws { λ _. ⌜ Pass-laws ⌝ }
     {
-        if n > LONGEST {
-            return Err(ChipFault {
-                cause: Cause::TimeTooLong,
-                place: n,
-            });
-        }
+        short_enough(n)?;
         self.run(n);
-        self.clock = self.clock.wrapping_add(n);
+        self.count(n);
         Ok(())
     }
 }

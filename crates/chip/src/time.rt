@@ -1,10 +1,10 @@
 // The passing of time, from the end of one state to the next.
 ghost use mathlib.Core.Path.{_≡_};
-ghost use Prim.Native.Nat.{_<_};
+ghost use Prim.Native.Nat.{_+_, _%_, _<_};
 ghost use Rattle.std.specs.Of.Vec.{vec-items};
 ghost use Rattle.geometry.specs.Blocks.{filled};
 ghost use Rattle.chip.specs.Flash.{view, with-cells, blocks};
-ghost use Rattle.chip.specs.Times.{burnt, programmed, spoils, erase-time, erased, ended, due, lowered, steps};
+ghost use Rattle.chip.specs.Times.{burnt, programmed, spoils, erase-time, erased, ended, due, lowered, steps, with-clock};
 use crate::chip::Chip;
 use crate::state::Erase;
 use crate::state::Mode;
@@ -170,5 +170,12 @@ impl Chip {
         while rest > 0 {
             rest = self.advance(rest);
         }
+    }
+
+    // Adds n microseconds to the count.
+    pub(crate) fn count(&mut self, n: u32)
+        ensures { λ _. ⌜ view (now (self .exit)) ≡ with-clock (view (now (self .entry))) ((now (self .entry) .clock + n) % 4294967296) ⌝ }
+    {
+        self.clock = self.clock.wrapping_add(n);
     }
 }

@@ -79,7 +79,7 @@ impl Chip {
             (Phase::Window, 0x30) => State::Erasing(Erase {
                 phase: Phase::Window,
                 selected: erase.selected | self.block_mask(address),
-                left: WINDOW,
+                left: WINDOW, // counted from this 30h on
                 toggle: erase.toggle,
             }),
             (Phase::Window, _) => State::Ready(Mode::Read, Place::Start),

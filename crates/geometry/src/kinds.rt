@@ -55,6 +55,12 @@ pub fn count(kind: u8) -> usize
     ensures bound { λ r. ⌜ r ≤ 11 ⌝ }
     ensures law { λ _. ⌜ ((kind : ℕ) → Laid-out (plan-of kind)) ⌝ }
 {
+    table_length(kind)
+}
+
+fn table_length(kind: u8) -> usize
+    ensures { λ r. ⌜ r ≡ length (plan-of kind .sizes) ⌝ }
+{
     match kind {
         TOP => Top::count(),
         BOTTOM => Bottom::count(),

@@ -10,7 +10,7 @@ use crate::tables::Block;
 use crate::tables::Geometry;
 
 // Where a block begins and how many bytes it has; none where there is no such block.
-pub fn nth_block<G: Geometry>(number: usize) -> Option<Block>
+pub(crate) fn nth_block<G: Geometry>(number: usize) -> Option<Block>
     ensures { λ r. ⌜ r ≡ block-at (G·Geometry .plan) number ⌝ }
 {
     if number < G::count() {
@@ -24,7 +24,7 @@ pub fn nth_block<G: Geometry>(number: usize) -> Option<Block>
 }
 
 // The block that an address lies in; past the last block, the number of blocks.
-pub fn block_at<G: Geometry>(address: u32) -> usize
+pub(crate) fn block_at<G: Geometry>(address: u32) -> usize
     ensures { λ r. ⌜ r ≡ block-of (G·Geometry .plan .sizes) address ⌝ }
 {
     let count = G::count();
@@ -50,7 +50,7 @@ fn fill_range(cells: &mut [u8], from: u32, width: u32, byte: u8)
 }
 
 // Sets each block of the mask to `byte` throughout, as far as there are cells.
-pub fn fill<G: Geometry>(cells: &mut [u8], mask: u32, byte: u8)
+pub(crate) fn fill<G: Geometry>(cells: &mut [u8], mask: u32, byte: u8)
     ensures { λ _. ⌜ now (cells .exit) ≡ filled (G·Geometry .plan .sizes) mask byte (now (cells .entry)) ⌝ }
 {
     for block in 0..G::count() {
