@@ -11,12 +11,7 @@ impl Chip {
     pub(crate) fn cell(&self, address: u32) -> u8
         ensures { λ r. ⌜ r ≡ cell (view (now (self .entry))) address ⌝ }
     {
-        let at = address as usize;
-        if at < self.cells.len() {
-            self.cells[at]
-        } else {
-            0
-        }
+        geometry::cell_at(self.cells.as_slice(), address)
     }
 
     // Whether an address lies in a block of the mask.

@@ -8,10 +8,10 @@ use native.Mathlib.Omega.{arith}
 use lib.Dec.{eqb, leb, ltb}
 use lib.ListN.{length, take, drop, getD, set}
 use Rattle.std.proofs.shelf.Lists.{length-take, length-drop, length-append, length-map, getD-append-left, getD-append-right, getD-take, getD-drop, getD-map, getD-set-same, getD-set-other}
-use Rattle.std.proofs.shelf.Tests.{lt-ltb, le-ltb, le-leb, leb-true, ltb-true, and-parts, cases-lt, cases-eq, cases-bool}
+use Rattle.std.proofs.shelf.Tests.{lt-ltb, le-ltb, le-leb, eq-eqb, ne-eqb, cases-lt, cases-eq}
 use Rattle.std.proofs.shelf.Ways.{tells}
 use Rattle.geometry.specs.Blocks.{start-of, block-of, bit, filled-from, filled}
-use Rattle.geometry.proofs.Placing.{in-block, block-is}
+use Rattle.geometry.proofs.Placing.{stretch-is}
 
 -- One cell more of a stretch that is being set to v.
 pub stretch-more : (xs ys : List ℕ) (from at v k : ℕ) → from ≤ at → at < length ys
@@ -114,24 +114,13 @@ pub filled-more : (sizes : List ℕ) (mask v b k x y z : ℕ) → b < length siz
     → z ≡ cond (leb (start-of sizes b) k && ltb k (start-of sizes b + getD sizes b 0)) v y
     → z ≡ cond (ltb (block-of sizes k) (b + 1) && bit mask (block-of sizes k)) v x
 filled-more sizes mask v b k x y z l t e f =
+    let g : z ≡ cond (eqb (block-of sizes k) b) v y = rw (stretch-is sizes k b l) at f in
     elim (cases-eq (block-of sizes k) b) [
       | inl s ↦
-          let i = in-block sizes k b s l in
           let m : bit mask (block-of sizes k) ≡ true = rw s t in
           let q : ltb (block-of sizes k) (b + 1) ≡ true = lt-ltb _ (b + 1) (omega arith) in
-          let lo : leb (start-of sizes b) k ≡ true = le-leb _ k (i .0) in
-          let hi : ltb k (start-of sizes b + getD sizes b 0) ≡ true = lt-ltb k _ (i .1) in
-          rw (q, m) (rw (lo, hi) at f)
+          rw (q, m) (rw (eq-eqb _ _ s) at g)
       | inr s ↦
           let q : ltb (block-of sizes k) (b + 1) ≡ ltb (block-of sizes k) b = grind (arith, tells) in
-          let out : (leb (start-of sizes b) k && ltb k (start-of sizes b + getD sizes b 0)) ≡ false = outside s in
-          rw q (rw out at f ∙ e)
-    ]
-  where
-    outside : (block-of sizes k ≡ b → ⊥) → (leb (start-of sizes b) k && ltb k (start-of sizes b + getD sizes b 0)) ≡ false
-    outside s = elim (cases-bool (leb (start-of sizes b) k && ltb k (start-of sizes b + getD sizes b 0))) [
-      | inl y ↦
-          let p = and-parts (leb (start-of sizes b) k) (ltb k (start-of sizes b + getD sizes b 0)) y in
-          absurd (s (block-is sizes k b l (leb-true _ _ (p .0)) (ltb-true _ _ (p .1))))
-      | inr y ↦ y
+          rw q (rw (ne-eqb _ _ s) at g ∙ e)
     ]

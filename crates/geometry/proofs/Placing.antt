@@ -6,10 +6,10 @@ use mathlib.Core.List.{List, [], _∷_}
 use mathlib.Core.Logic.{_⊎_, inl, inr}
 use native.Mathlib.Omega.{arith}
 use native.Mathlib.Numerals.{add-one}
-use lib.Dec.{eqb, ltb, lit≤}
+use lib.Dec.{eqb, leb, ltb, lit≤}
 use lib.ListN.{length, take, drop, getD}
 use Rattle.std.proofs.shelf.Lists.{drop-more, drop-all}
-use Rattle.std.proofs.shelf.Tests.{lt-ltb, le-ltb, cases-lt, and-parts, eqb-true, false≢true, cond-both}
+use Rattle.std.proofs.shelf.Tests.{lt-ltb, le-ltb, cases-lt, and-parts, eqb-true, false≢true, cond-both, cases-eq, cases-bool, eq-eqb, ne-eqb, le-leb, leb-true, ltb-true}
 use Rattle.geometry.specs.Blocks.{total, start-of, block-of}
 use Rattle.geometry.specs.Plans.{Plan, top, bottom, bench, dead, plan-of, contiguous, Contiguous, Laid-out}
 
@@ -129,3 +129,22 @@ every-block kind a h = block-within (plan-of kind .sizes) a (omega (arith, every
 
 pub every-few : (kind : ℕ) → length (plan-of kind .sizes) ≤ 11
 every-few kind = every-plan (λ (p : Plan). length (p .sizes) ≤ 11) (lit≤ tt) (lit≤ tt) (lit≤ tt) (lit≤ tt) kind
+
+-- An address lies between a block's start and end just where it lies in the block.
+pub stretch-is : (sizes : List ℕ) (k b : ℕ) → b < length sizes
+    → (leb (start-of sizes b) k && ltb k (start-of sizes b + getD sizes b 0)) ≡ eqb (block-of sizes k) b
+stretch-is sizes k b l =
+    elim (cases-eq (block-of sizes k) b) [
+      | inl e ↦
+          let i = in-block sizes k b e l in
+          rw (le-leb _ k (i .0), lt-ltb k _ (i .1), eq-eqb _ _ e)
+      | inr n ↦ rw (ne-eqb _ _ n) (outside n)
+    ]
+  where
+    outside : (block-of sizes k ≡ b → ⊥) → (leb (start-of sizes b) k && ltb k (start-of sizes b + getD sizes b 0)) ≡ false
+    outside n = elim (cases-bool (leb (start-of sizes b) k && ltb k (start-of sizes b + getD sizes b 0))) [
+      | inl y ↦
+          let p = and-parts (leb (start-of sizes b) k) (ltb k (start-of sizes b + getD sizes b 0)) y in
+          absurd (n (block-is sizes k b l (leb-true _ _ (p .0)) (ltb-true _ _ (p .1))))
+      | inr y ↦ y
+    ]

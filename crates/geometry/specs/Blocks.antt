@@ -33,3 +33,9 @@ filled-from first (w ∷ ws) mask v cells =
 -- the cells with each block of the mask set to v throughout
 unfoldable pub filled : List ℕ → ℕ → ℕ → List ℕ → List ℕ
 filled sizes mask v cells = filled-from 0 sizes mask v cells
+
+-- the cells with block b set to v throughout
+abbrev pub wiped : List ℕ → ℕ → ℕ → List ℕ → List ℕ
+wiped [] b v cells = cells
+wiped (w ∷ ws) zero v cells = map (λ _. v) (take w cells) ++ drop w cells
+wiped (w ∷ ws) (suc b) v cells = take w cells ++ wiped ws b v (drop w cells)

@@ -23,3 +23,5 @@ pub use tables::DeadGeometry;
 pub use tables::Geometry;
 pub use tables::Top;
 pub use tables::TopGeometry;
+pub use walk::cell_at;
+pub use walk::fill_range;

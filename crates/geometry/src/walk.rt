@@ -39,8 +39,16 @@ pub(crate) fn block_at<G: Geometry>(address: u32) -> usize
     count
 }
 
+// The cell at an address; 0 where there is none.
+pub fn cell_at(cells: &[u8], address: u32) -> u8
+    ensures { λ r. ⌜ r ≡ getD (now (cells .entry)) address 0 ⌝ }
+{
+    let at = address as usize;
+    if at < cells.len() { cells[at] } else { 0 }
+}
+
 // Sets `width` cells from `from` on to `byte`, as far as there are cells.
-fn fill_range(cells: &mut [u8], from: u32, width: u32, byte: u8)
+pub fn fill_range(cells: &mut [u8], from: u32, width: u32, byte: u8)
     ensures { λ _. ⌜ ((k : ℕ) → k < length (now (cells .entry)) → getD (now (cells .exit)) k 0 ≡ cond (leb from k && ltb k (from + width)) byte (getD (now (cells .entry)) k 0)) ⌝ }
 {
     let end = (from as usize + width as usize).min(cells.len());

@@ -7,10 +7,20 @@ ghost use Rattle.refusal.specs.Numbers.{number-of};
 pub enum Cause {
     // An address at or past the end.
     AddressOutside,
+    // A block that there is not.
+    NoSuchBlock,
     // A time over the longest that one call may pass.
     TimeTooLong,
     // A number, or a memory's length, with which nothing can be made.
     UnfitMaking,
+    // An erasure that runs, or is suspended, where the call cannot go on beside it.
+    ErasureInTheWay,
+    // A guarded block.
+    Guarded,
+    // A bit of a cell that is 0 would have to become 1.
+    NeedsErase,
+    // A worn block.
+    Worn,
 }
 
 impl Cause {
@@ -20,8 +30,13 @@ impl Cause {
     {
         match self {
             Cause::AddressOutside => 1,
+            Cause::NoSuchBlock => 2,
             Cause::TimeTooLong => 3,
             Cause::UnfitMaking => 4,
+            Cause::ErasureInTheWay => 5,
+            Cause::Guarded => 6,
+            Cause::NeedsErase => 7,
+            Cause::Worn => 8,
         }
     }
 }
