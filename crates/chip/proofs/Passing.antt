@@ -104,7 +104,7 @@ over (suc n) f e =
     steps-last n f ∙ ap step before ∙ on ∙ ended-lowered f (f .state) (lowered n (f .state)) (suc n) n e
 
 -- The count of microseconds does not bear on anything else.
-clock-cond : (t : Bool) (f g : Flash) (c : ℕ) → cond t (with-clock f c) (with-clock g c) ≡ with-clock (cond t f g) c
+pub clock-cond : (t : Bool) (f g : Flash) (c : ℕ) → cond t (with-clock f c) (with-clock g c) ≡ with-clock (cond t f g) c
 clock-cond true f g c = refl
 clock-cond false f g c = refl
 
@@ -136,12 +136,12 @@ step-clock f c = by (due (f .state))
         ap (λ (x : Flash). cond (leb d 1) x (with-clock (with-state f (lowered 1 (f .state))) c)) (ended-clock f (f .state) c)
         ∙ clock-cond (leb d 1) (ended f (f .state)) (with-state f (lowered 1 (f .state))) c
 
-steps-clock : (n : ℕ) (f : Flash) (c : ℕ) → steps n (with-clock f c) ≡ with-clock (steps n f) c
+pub steps-clock : (n : ℕ) (f : Flash) (c : ℕ) → steps n (with-clock f c) ≡ with-clock (steps n f) c
 unfolding steps
 steps-clock zero f c = refl
 steps-clock (suc n) f c = ap (steps n) (step-clock f c) ∙ steps-clock n (step f) c
 
-steps-count : (n : ℕ) (f : Flash) → steps n f .clock ≡ f .clock
+pub steps-count : (n : ℕ) (f : Flash) → steps n f .clock ≡ f .clock
 steps-count n f = ap (λ (g : Flash). g .clock) (steps-clock n f (f .clock))
 
 -- n microseconds one by one are the steps of n, with n more on the count

@@ -1,8 +1,10 @@
 // The making of a chip, and what can be asked of it.
 ghost use mathlib.Core.Path.{_≡_};
 ghost use mathlib.Core.Bool.{true};
+ghost use Prim.Native.Nat.{_≤_};
 ghost use lib.ListN.{length};
 ghost use Rattle.std.specs.Of.Vec.{vec-items, vec-len};
+ghost use Rattle.geometry.specs.Blocks.{block-of};
 ghost use Rattle.geometry.specs.Plans.{plan-of, block-at};
 ghost use Rattle.chip.specs.Setups.{between, in-limits, fit};
 ghost use Rattle.chip.specs.Flash.{view, size, blocks};
@@ -116,6 +118,14 @@ impl Chip {
         ensures { λ r. ⌜ r ≡ block-at (plan-of (now (self .entry) .setup .kind)) number ⌝ }
     {
         geometry::nth_block(self.setup.kind, number)
+    }
+
+    // The block that an address lies in; the number of blocks where the address is outside.
+    pub fn block_at(&self, address: u32) -> usize
+        ensures value { λ r. ⌜ r ≡ block-of (blocks (view (now (self .entry)))) address ⌝ }
+        ensures bound { λ r. ⌜ r ≤ 11 ⌝ }
+    {
+        geometry::block_at(self.setup.kind, address)
     }
 
     // The chip's device code.

@@ -4,6 +4,7 @@ mod answers;
 mod fault;
 mod grant;
 mod part;
+mod raise;
 
 pub use answers::Progress;
 pub use answers::Shape;
@@ -12,3 +13,4 @@ pub use answers::Turn;
 pub use fault::PartFault;
 pub use grant::granted;
 pub use part::Part;
+pub use raise::PartFaultFromChip;

@@ -1,0 +1,14 @@
+pub mod Burning
+pub mod Calling
+pub mod Commands
+pub mod Elapsing
+pub mod Finishing
+pub mod Halting
+pub mod Holding
+pub mod Judging
+pub mod Moving
+pub mod OneBlock
+pub mod Polling
+pub mod Reading
+pub mod Running
+pub mod Tying

@@ -1,0 +1,5 @@
+pub mod Driven
+pub mod Means
+pub mod Status
+pub mod Steps
+pub mod Work
