@@ -30,7 +30,7 @@ fn hides(standing: Standing, block: u32) -> bool
 {
     match standing {
         Standing::Idle => false,
-        Standing::Running(_) => true,
+        Standing::Running(_) => true, // every block
         Standing::Suspended(own) => own == block,
     }
 }

@@ -18,7 +18,7 @@ use Rattle.chip.specs.declared.setup.Setup.{Setup}
 use Rattle.chip.specs.declared.state.Phase.the-variants.{Window}
 use Rattle.chip.specs.declared.state.Erase.{Erase}
 use Rattle.chip.specs.declared.state.State.the-variants.{Erasing}
-use Rattle.chip.specs.Flash.{Flash, with-state, with-cells, blocks, inside, protected} 
+use Rattle.chip.specs.Flash.{Flash, with-state, with-cells, blocks, inside, protected}
 use Rattle.chip.specs.Flash as flash
 use Rattle.chip.specs.Writes.{read-mode, block-mask}
 use Rattle.chip.specs.Times.{erase-time}
@@ -63,9 +63,10 @@ module _ (f : Flash) (st : Standing) (s : Sound f) (t : tied f st ≡ true) (a b
 
   pub burn-clear : Clear f a byte
   burn-clear = record {
-      within = burn-inside;
-      unprotected = sym (at-block f (f .setup .protected) a burn-inside) ∙ k .unguarded;
-      clears = k .clears }
+    within = burn-inside;
+    unprotected = sym (at-block f (f .setup .protected) a burn-inside) ∙ k .unguarded;
+    clears = k .clears;
+  }
 
   worn-is : worn (meaning f st) (block (meaning f st) a) ≡ flash.worn f a
   worn-is = at-block f (f .setup .worn) a burn-inside
@@ -83,26 +84,32 @@ module _ (f : Flash) (st : Standing) (s : Sound f) (t : tied f st ≡ true) (a b
   burn-means r g e d =
       subst (λ (x : Standing). Programmed (meaning f x) a byte r (meaning g x)) (sym (idle-is f st (k .free))) (
       elim (cases-bool (flash.worn f a)) [
-        inl w ↦
-          subst (λ (x : Bool). Programmed (meaning f Idle) a byte x (meaning g Idle)) (sym (e ∙ ap not w))
-          (worn-is ∙ w,
-           record { time = 300; low = lit≤ tt; high = lit≤ tt; is = ap (λ (x : Flash). meaning x Idle) (d ∙ cond-true (flash.worn f a) _ _ w) })
-      | inr w ↦
-          subst (λ (x : Bool). Programmed (meaning f Idle) a byte x (meaning g Idle)) (sym (e ∙ ap not w))
-          (worn-is ∙ w,
-           record {
-             time = f .setup .program;
-             low = limits (f .setup) (s .limits) .program-low; high = limits (f .setup) (s .limits) .program-high;
-             is = ap (λ (x : Flash). meaning x Idle) (d ∙ cond-false (flash.worn f a) _ _ w) }) ])
+        | inl w ↦
+            subst (λ (x : Bool). Programmed (meaning f Idle) a byte x (meaning g Idle)) (sym (e ∙ ap not w)) (
+              worn-is ∙ w,
+              record { time = 300; low = lit≤ tt; high = lit≤ tt; is = ap (λ (x : Flash). meaning x Idle) (d ∙ cond-true (flash.worn f a) _ _ w) },
+            )
+        | inr w ↦
+            subst (λ (x : Bool). Programmed (meaning f Idle) a byte x (meaning g Idle)) (sym (e ∙ ap not w)) (
+              worn-is ∙ w,
+              record {
+                time = f .setup .program;
+                low = limits (f .setup) (s .limits) .program-low;
+                high = limits (f .setup) (s .limits) .program-high;
+                is = ap (λ (x : Flash). meaning x Idle) (d ∙ cond-false (flash.worn f a) _ _ w);
+              },
+            )
+      ])
 
 -- the start of a block that there is not is 0
 no-block : (p : Plan) (b : ℕ) → block-at p b ≡ None → length (p .sizes) ≤ b
 no-block p b e = elim (cases-bool (ltb b (length (p .sizes)))) [
-      inl t ↦
-        let x : Block = record { start = getD (p .starts) b 0; size = getD (p .sizes) b 0 } in
-        let g : block-at p b ≡ Some x = cond-true (ltb b (length (p .sizes))) (Some x) None t in
-        let z : _≡_ {A = ℕ} 0 1 = cc in absurd (omega arith)
-    | inr t ↦ ltb-false b (length (p .sizes)) t ]
+  | inl t ↦
+      let x : Block = record { start = getD (p .starts) b 0; size = getD (p .sizes) b 0 } in
+      let g : block-at p b ≡ Some x = cond-true (ltb b (length (p .sizes))) (Some x) None t in
+      let z : _≡_ {A = ℕ} 0 1 = cc in absurd (omega arith)
+  | inr t ↦ ltb-false b (length (p .sizes)) t
+]
 
 pub no-start : (kind b : ℕ) → block-at (plan-of kind) b ≡ None → getD (plan-of kind .starts) b 0 ≡ 0
 no-start kind b e =
@@ -134,20 +141,21 @@ module _ (f : Flash) (st : Standing) (s : Sound f) (t : tied f st ≡ true) (b :
   begin-tied g e =
       ap (λ (x : Flash). tied x (Running b)) e
       ∙ is-good f b (record { phase = Window; selected = block-mask f at; left = 50; toggle = false })
-        (record { within = private-facts .0; unprotected = private-facts .2; selected = mask-is; lasts = lit≤ tt })
+      (record { within = private-facts .0; unprotected = private-facts .2; selected = mask-is; lasts = lit≤ tt })
 
   pub begin-means : (g : Flash) → g ≡ begun → Started (meaning f st) b (meaning g (Running b))
   begin-means g e =
       let few : b < 11 = omega (arith, private-facts .0, every-few (f .setup .kind)) in
       let l = limits (f .setup) (s .limits) in
       let n : erase-time f (block-mask f at) ≡ cond (bit (f .setup .worn) b) 10000000 (f .setup .erase) =
-        ap (erase-time f) mask-is ∙ erase-time-one f b few (private-facts .2) in
+      ap (erase-time f) mask-is ∙ erase-time-one f b few (private-facts .2) in
       let low : 1 ≤ erase-time f (block-mask f at) =
-        subst (λ (k : ℕ). 1 ≤ k) (sym n) (cond-both (bit (f .setup .worn) b) _ _ (λ (k : ℕ). 1 ≤ k) (λ _. lit≤ tt) (λ _. l .erase-low)) in
+      subst (λ (k : ℕ). 1 ≤ k) (sym n) (cond-both (bit (f .setup .worn) b) _ _ (λ (k : ℕ). 1 ≤ k) (λ _. lit≤ tt) (λ _. l .erase-low)) in
       let high : erase-time f (block-mask f at) ≤ 10000000 =
-        subst (λ (k : ℕ). k ≤ 10000000) (sym n) (cond-both (bit (f .setup .worn) b) _ _ (λ (k : ℕ). k ≤ 10000000) (λ _. lit≤ tt) (λ _. l .erase-high)) in
+      subst (λ (k : ℕ). k ≤ 10000000) (sym n) (cond-both (bit (f .setup .worn) b) _ _ (λ (k : ℕ). k ≤ 10000000) (λ _. lit≤ tt) (λ _. l .erase-high)) in
       record {
         left = 50 + erase-time f (block-mask f at);
         low = omega arith;
         high = omega arith;
-        is = ap (λ (x : Flash). meaning x (Running b)) e }
+        is = ap (λ (x : Flash). meaning x (Running b)) e;
+      }

@@ -30,33 +30,36 @@ pub same-block : (kind b : ℕ) → plans.block-at (plan-of kind) b
 same-block kind b =
     let p = plan-of kind in
     elim (cases-bool (ltb b (length (p .sizes)))) [
-      inl t ↦
-        let s : getD (p .starts) b 0 ≡ start-of (p .sizes) b =
+      | inl t ↦
+          let s : getD (p .starts) b 0 ≡ start-of (p .sizes) b =
           omega (arith, table-start 0 (p .starts) (p .sizes) (p .size) (every-plan Contiguous refl refl refl refl kind) b (ltb-true _ _ t)) in
-        ap (λ (n : ℕ). cond (ltb b (length (p .sizes))) (Some (record { start = n; size = getD (p .sizes) b 0 })) None) s
-    | inr t ↦ cond-false (ltb b (length (p .sizes))) _ _ t ∙ sym (cond-false (ltb b (length (p .sizes))) _ _ t) ]
+          ap (λ (n : ℕ). cond (ltb b (length (p .sizes))) (Some (record { start = n; size = getD (p .sizes) b 0 })) None) s
+      | inr t ↦ cond-false (ltb b (length (p .sizes))) _ _ t ∙ sym (cond-false (ltb b (length (p .sizes))) _ _ t)
+    ]
 
 -- A read that was refused, and one that was not.
 pub read-broke : (m : Meaning) (a : ℕ) (r : Result ℕ PartFault) (f : PartFault) → Read m a r → r ≡ Err f
     → (outside m a ≡ true) × (f ≡ record { cause = AddressOutside; place = a })
 read-broke m a r f x e =
     elim (cases-bool (outside m a)) [
-      inl o ↦ let g = x .refused o in (o, cc)
-    | inr o ↦
-        let g = x .granted o in
-        let h : r ≡ Ok (g .0) = g .1 in
-        let z : _≡_ {A = ℕ} 0 1 = cc in absurd (omega arith) ]
+      | inl o ↦ let g = x .refused o in (o, cc)
+      | inr o ↦
+          let g = x .granted o in
+          let h : r ≡ Ok (g .0) = g .1 in
+          let z : _≡_ {A = ℕ} 0 1 = cc in absurd (omega arith)
+    ]
 
 pub read-gave : (m : Meaning) (a : ℕ) (r : Result ℕ PartFault) (byte : ℕ) → Read m a r → r ≡ Ok byte
     → (outside m a ≡ false) × (hides (m .erasure) (block m a) ≡ false → byte ≡ cell m a)
 read-gave m a r byte x e =
     elim (cases-bool (outside m a)) [
-      inl o ↦ let g = x .refused o in let z : _≡_ {A = ℕ} 0 1 = cc in absurd (omega arith)
-    | inr o ↦
-        let g = x .granted o in
-        let h : r ≡ Ok (g .0) = g .1 in
-        let same : byte ≡ g .0 = cc in
-        (o, λ n. same ∙ g .2 n) ]
+      | inl o ↦ let g = x .refused o in let z : _≡_ {A = ℕ} 0 1 = cc in absurd (omega arith)
+      | inr o ↦
+          let g = x .granted o in
+          let h : r ≡ Ok (g .0) = g .1 in
+          let same : byte ≡ g .0 = cc in
+          (o, λ n. same ∙ g .2 n)
+    ]
 
 pub peek-outside : (m : Meaning) (a : ℕ) → outside m a ≡ true → peek-no m a ≡ Some AddressOutside
 peek-outside m a o = cond-true (outside m a) _ _ o
@@ -88,23 +91,26 @@ pub why : (m : Meaning) (a old byte : ℕ) → outside m a ≡ false → (hides 
     → Why m a byte (burn-why m a old byte)
 why m a old byte o r =
     elim (cases-bool (stands (m .erasure))) [
-      inl s ↦ way (cond-true (stands (m .erasure)) _ _ s) (cond-false (outside m a) _ _ o ∙ cond-true (stands (m .erasure)) _ _ s)
-    | inr s ↦ elim (cases-bool (guarded m (block m a))) [
-        inl g ↦
-          guard (cond-false (stands (m .erasure)) _ _ s ∙ cond-true (guarded m (block m a)) _ _ g)
-          (cond-false (outside m a) _ _ o ∙ cond-false (stands (m .erasure)) _ _ s ∙ cond-true (guarded m (block m a)) _ _ g)
-      | inr g ↦
-          let same : old ≡ cell m a = r (not-hidden (m .erasure) (block m a) s) in
-          elim (cases-bool (needs-erase (cell m a) byte)) [
-            inl n ↦
-              bits (cond-false (stands (m .erasure)) _ _ s ∙ cond-false (guarded m (block m a)) _ _ g
-                    ∙ cond-true (needs-erase old byte) _ _ (ap (λ (x : ℕ). needs-erase x byte) same ∙ n))
-              (cond-false (outside m a) _ _ o ∙ cond-false (stands (m .erasure)) _ _ s ∙ cond-false (guarded m (block m a)) _ _ g
-               ∙ cond-true (needs-erase (cell m a) byte) _ _ n)
-          | inr n ↦
-              free (cond-false (stands (m .erasure)) _ _ s ∙ cond-false (guarded m (block m a)) _ _ g
-                    ∙ cond-false (needs-erase old byte) _ _ (ap (λ (x : ℕ). needs-erase x byte) same ∙ n))
-              (record { within = o; free = s; unguarded = g; clears = n }) ] ] ]
+      | inl s ↦ way (cond-true (stands (m .erasure)) _ _ s) (cond-false (outside m a) _ _ o ∙ cond-true (stands (m .erasure)) _ _ s)
+      | inr s ↦ elim (cases-bool (guarded m (block m a))) [
+        | inl g ↦
+            guard (cond-false (stands (m .erasure)) _ _ s ∙ cond-true (guarded m (block m a)) _ _ g)
+            (cond-false (outside m a) _ _ o ∙ cond-false (stands (m .erasure)) _ _ s ∙ cond-true (guarded m (block m a)) _ _ g)
+        | inr g ↦
+            let same : old ≡ cell m a = r (not-hidden (m .erasure) (block m a) s) in
+            elim (cases-bool (needs-erase (cell m a) byte)) [
+              | inl n ↦
+                  bits (cond-false (stands (m .erasure)) _ _ s ∙ cond-false (guarded m (block m a)) _ _ g
+                  ∙ cond-true (needs-erase old byte) _ _ (ap (λ (x : ℕ). needs-erase x byte) same ∙ n))
+                  (cond-false (outside m a) _ _ o ∙ cond-false (stands (m .erasure)) _ _ s ∙ cond-false (guarded m (block m a)) _ _ g
+                  ∙ cond-true (needs-erase (cell m a) byte) _ _ n)
+              | inr n ↦
+                  free (cond-false (stands (m .erasure)) _ _ s ∙ cond-false (guarded m (block m a)) _ _ g
+                  ∙ cond-false (needs-erase old byte) _ _ (ap (λ (x : ℕ). needs-erase x byte) same ∙ n))
+                  (record { within = o; free = s; unguarded = g; clears = n })
+            ]
+      ]
+    ]
 
 -- the rest of the checks of a burn that may be burnt
 burn-rest : (m : Meaning) (a byte : ℕ) → Burns m a byte → burn-no m a byte ≡ cond (worn m (block m a)) (Some Worn) None
@@ -119,9 +125,10 @@ Burn m a byte r n = (r ≡ answer (burn-no m a byte) a tt) × Burnt m a byte n
 -- a refusal that changes nothing
 pub burn-refused : (m : Meaning) (a byte : ℕ) (c : Cause) → burn-no m a byte ≡ Some c → eqb (number-of c) 8 ≡ false
     → Burn m a byte (Err (record { cause = c; place = a })) m
-burn-refused m a byte c e n =
-    (sym (ap (λ o. answer o a tt) e),
-     subst (λ (o : Option Cause). Burnt-by m a byte o m) (sym e) (subst (λ (t : Bool). Refused t m m) (sym n) refl))
+burn-refused m a byte c e n = (
+  sym (ap (λ o. answer o a tt) e),
+  subst (λ (o : Option Cause). Burnt-by m a byte o m) (sym e) (subst (λ (t : Bool). Refused t m m) (sym n) refl),
+)
 
 -- the burn itself
 pub burn-done : (m : Meaning) (a byte : ℕ) (n : Meaning) → Burns m a byte → Programmed m a byte true n → Burn m a byte (Ok tt) n

@@ -39,6 +39,6 @@ begins-program f a byte s i = write-laws .programs f Read s 0x5555 0x2AAA 0x5555
 -- The block of an address begins to be erased.
 pub begins-erase : (f : Flash) (a : ℕ) → f .state ≡ read-mode → inside f a ≡ true
     → written (written (written (commanded f 0x80) 0x5555 0xAA) 0x2AAA 0x55) a 0x30
-      ≡ with-state f (Erasing (record { phase = Window; selected = block-mask f a; left = 50; toggle = false }))
+    ≡ with-state f (Erasing (record { phase = Window; selected = block-mask f a; left = 50; toggle = false }))
 begins-erase f a s i =
     write-laws .erases f Read s 0x5555 0x2AAA 0x5555 0x5555 0x2AAA a (first f a i) (second f a i) (first f a i) (first f a i) (second f a i) i

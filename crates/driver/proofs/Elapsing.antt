@@ -146,20 +146,21 @@ module _ (f : Flash) (b : ℕ) (s : Sound f) (e : Erase) (is : f .state ≡ Eras
       let x : Erase = r .erase in
       let g : Flash = with-state f (Erasing x) in
       let v : look-verdict (steps n f) at ≡ Busy =
-        ap (λ (y : Flash). look-verdict y at) (r .is) ∙ ap (λ (y : ℕ). judged y 0xFF) (answer-in g at within)
-        ∙ judged-busy 0xFF (lit≤ tt) (x .toggle) (begun (x .phase)) in
+      ap (λ (y : Flash). look-verdict y at) (r .is) ∙ ap (λ (y : ℕ). judged y 0xFF) (answer-in g at within)
+      ∙ judged-busy 0xFF (lit≤ tt) (x .toggle) (begun (x .phase)) in
       let l : looked (steps n f) at ≡ with-state f (Erasing (flip-erase x)) =
-        ap (mended (seen (steps n f) at) at) v ∙ ap (λ (y : Flash). seen y at) (r .is) ∙ see-in g at within in
+      ap (mended (seen (steps n f) at) at) v ∙ ap (λ (y : Flash). seen y at) (r .is) ∙ see-in g at within in
       let less : ltb n total-left ≡ true = lt-ltb n total-left h in
       let left : left-of f (flip-erase x) (x .phase) ≡ total-left - n = omega (arith, flip-left f x (x .phase), r .left, left-is) in
       subst (λ (y : Verdict). Outcome f b n y (looked (steps n f) at)) (sym v)
       (subst (Outcome f b n Busy) (sym l) (record {
         tells = cond-true (ltb n total-left) _ _ less;
         means =
-          ap (λ (y : ℕ). ticked (with-erasure (meaning f (Running b)) (Some (record { block = b; left = y; running = true }))) n) left
-          ∙ ap (λ (y : Meaning). ticked y n) (sym (cond-true (ltb n total-left) _ _ less));
+            ap (λ (y : ℕ). ticked (with-erasure (meaning f (Running b)) (Some (record { block = b; left = y; running = true }))) n) left
+            ∙ ap (λ (y : Meaning). ticked y n) (sym (cond-true (ltb n total-left) _ _ less));
         ties = is-good f b (flip-erase x) (record { within = k .within; unprotected = k .unprotected; selected = r .selected ∙ k .selected; lasts = r .lasts });
-        same-setup = refl }))
+        same-setup = refl;
+      }))
 
   over-is : (n : ℕ) → total-left ≤ n → steps n f ≡ erased f e Begun
   over-is n h = ends f e is (k .lasts) time-lasts (e .phase) refl n (omega (arith, left-is))
@@ -173,20 +174,21 @@ module _ (f : Flash) (b : ℕ) (s : Sound f) (e : Erase) (is : f .state ≡ Eras
       let g : Flash = with-state f (Broken 0xFF (e .toggle)) in
       let is-g : steps n f ≡ g = over-is n h ∙ cond-true (spoils f (e .selected)) _ _ (spoils-is ∙ w) in
       let v : look-verdict (steps n f) at ≡ Failed =
-        ap (λ (y : Flash). look-verdict y at) is-g ∙ ap (λ (y : ℕ). judged y 0xFF) (answer-in g at within) ∙ judged-failed 0xFF (lit≤ tt) (e .toggle) in
+      ap (λ (y : Flash). look-verdict y at) is-g ∙ ap (λ (y : ℕ). judged y 0xFF) (answer-in g at within) ∙ judged-failed 0xFF (lit≤ tt) (e .toggle) in
       let l : looked (steps n f) at ≡ with-state f read-mode =
-        ap (mended (seen (steps n f) at) at) v ∙ ap (λ (y : Flash). written (seen y at) at 0xF0) is-g
-        ∙ ap (λ (y : Flash). written y at 0xF0) (see-in g at within)
-        ∙ write-in (with-state f (Broken 0xFF (not (e .toggle)))) (Broken 0xFF (not (e .toggle))) refl at 0xF0 within in
+      ap (mended (seen (steps n f) at) at) v ∙ ap (λ (y : Flash). written (seen y at) at 0xF0) is-g
+      ∙ ap (λ (y : Flash). written y at 0xF0) (see-in g at within)
+      ∙ write-in (with-state f (Broken 0xFF (not (e .toggle)))) (Broken 0xFF (not (e .toggle))) refl at 0xF0 within in
       let less : ltb n total-left ≡ false = le-ltb n total-left h in
       subst (λ (y : Verdict). Outcome f b n y (looked (steps n f) at)) (sym v)
       (subst (Outcome f b n Failed) (sym l) (record {
         tells = cond-false (ltb n total-left) _ _ less ∙ cond-true (worn (meaning f (Running b)) b) _ _ (worn-is ∙ w);
         means =
-          ap (λ (y : Meaning). ticked y n) (sym (cond-false (ltb n total-left) _ _ less
-          ∙ ap (λ cells. with-erasure (meanings.with-cells (meaning f (Running b)) cells) None) (cond-true (worn (meaning f (Running b)) b) _ _ (worn-is ∙ w))));
+            ap (λ (y : Meaning). ticked y n) (sym (cond-false (ltb n total-left) _ _ less
+            ∙ ap (λ cells. with-erasure (meanings.with-cells (meaning f (Running b)) cells) None) (cond-true (worn (meaning f (Running b)) b) _ _ (worn-is ∙ w))));
         ties = refl;
-        same-setup = refl }))
+        same-setup = refl;
+      }))
 
   -- it is done
   done-look : (n : ℕ) → total-left ≤ n → bit (f .setup .worn) b ≡ false → Outcome f b n (look-verdict (steps n f) at) (looked (steps n f) at)
@@ -194,32 +196,34 @@ module _ (f : Flash) (b : ℕ) (s : Sound f) (e : Erase) (is : f .state ≡ Eras
       let cells = wiped (blocks f) b 0xFF (f .cells) in
       let g : Flash = with-cells f cells read-mode in
       let fill : filled (blocks f) (erasable f (e .selected)) 0xFF (f .cells) ≡ cells =
-        ap (λ (m : ℕ). filled (blocks f) m 0xFF (f .cells)) (ap (erasable f) (k .selected) ∙ erasable-one f b few (k .unprotected))
-        ∙ filled-one (blocks f) b 0xFF (f .cells) (k .within) in
+      ap (λ (m : ℕ). filled (blocks f) m 0xFF (f .cells)) (ap (erasable f) (k .selected) ∙ erasable-one f b few (k .unprotected))
+      ∙ filled-one (blocks f) b 0xFF (f .cells) (k .within) in
       let is-g : steps n f ≡ g =
-        over-is n h ∙ cond-false (spoils f (e .selected)) _ _ (spoils-is ∙ w) ∙ ap (λ c. with-cells f c read-mode) fill in
+      over-is n h ∙ cond-false (spoils f (e .selected)) _ _ (spoils-is ∙ w) ∙ ap (λ c. with-cells f c read-mode) fill in
       let inside-cells : at < length (f .cells) = omega (arith, s .whole, ltb-true _ _ within) in
       let erased-cell : getD cells at 0 ≡ 0xFF =
-        wiped-at (blocks f) b 0xFF (f .cells) at (k .within) inside-cells
-        ∙ cond-true (eqb (block-of (blocks f) at) b) _ _ (eq-eqb _ _ (starts f b (k .within) .block)) in
+      wiped-at (blocks f) b 0xFF (f .cells) at (k .within) inside-cells
+      ∙ cond-true (eqb (block-of (blocks f) at) b) _ _ (eq-eqb _ _ (starts f b (k .within) .block)) in
       let v : look-verdict (steps n f) at ≡ Done =
-        ap (λ (y : Flash). look-verdict y at) is-g ∙ ap (λ (y : ℕ). judged y 0xFF) (answer-in g at within ∙ erased-cell) ∙ judged-done 0xFF in
+      ap (λ (y : Flash). look-verdict y at) is-g ∙ ap (λ (y : ℕ). judged y 0xFF) (answer-in g at within ∙ erased-cell) ∙ judged-done 0xFF in
       let l : looked (steps n f) at ≡ g =
-        ap (mended (seen (steps n f) at) at) v ∙ ap (λ (y : Flash). seen y at) is-g ∙ see-in g at within in
+      ap (mended (seen (steps n f) at) at) v ∙ ap (λ (y : Flash). seen y at) is-g ∙ see-in g at within in
       let less : ltb n total-left ≡ false = le-ltb n total-left h in
       subst (λ (y : Verdict). Outcome f b n y (looked (steps n f) at)) (sym v)
       (subst (Outcome f b n Done) (sym l) (record {
         tells = cond-false (ltb n total-left) _ _ less ∙ cond-false (worn (meaning f (Running b)) b) _ _ (worn-is ∙ w);
         means =
-          ap (λ (y : Meaning). ticked y n) (sym (cond-false (ltb n total-left) _ _ less
-          ∙ ap (λ cells. with-erasure (meanings.with-cells (meaning f (Running b)) cells) None) (cond-false (worn (meaning f (Running b)) b) _ _ (worn-is ∙ w))));
+            ap (λ (y : Meaning). ticked y n) (sym (cond-false (ltb n total-left) _ _ less
+            ∙ ap (λ cells. with-erasure (meanings.with-cells (meaning f (Running b)) cells) None) (cond-false (worn (meaning f (Running b)) b) _ _ (worn-is ∙ w))));
         ties = refl;
-        same-setup = refl }))
+        same-setup = refl;
+      }))
 
   pub outcome : (n : ℕ) → Outcome f b n (look-verdict (steps n f) at) (looked (steps n f) at)
   outcome n = elim (cases-lt n total-left) [
-        inl h ↦ running-look n h
-      | inr h ↦ elim (cases-bool (bit (f .setup .worn) b)) [ inl w ↦ worn-look n h w | inr w ↦ done-look n h w ] ]
+    | inl h ↦ running-look n h
+    | inr h ↦ elim (cases-bool (bit (f .setup .worn) b)) [ inl w ↦ worn-look n h w | inr w ↦ done-look n h w ]
+  ]
 
 -- Time where no erasure runs, granted or not.
 pub record Waited (f : Flash) (st : Standing) (n : ℕ) (g : Flash) : Type 0 where
@@ -231,13 +235,14 @@ pub waited-still : (n : ℕ) (f g : Flash) (st : Standing) → Sound f → tied 
     → g ≡ after n f → Waited f st n g
 waited-still n f g st s t h d =
     elim (cases-bool (leb n longest)) [
-      inl e ↦
-        let m = still-means n f st h in
-        subst (Waited f st n) (sym (d ∙ still-after n f st s t h e))
-        (record { same-setup = refl; ties = m .1 ∙ t; means = m .0 ∙ sym (cond-true (leb n longest) _ _ e) })
-    | inr e ↦
-        subst (Waited f st n) (sym (d ∙ no-time n f e))
-        (record { same-setup = refl; ties = t; means = sym (cond-false (leb n longest) _ _ e) }) ]
+      | inl e ↦
+          let m = still-means n f st h in
+          subst (Waited f st n) (sym (d ∙ still-after n f st s t h e))
+          (record { same-setup = refl; ties = m .1 ∙ t; means = m .0 ∙ sym (cond-true (leb n longest) _ _ e) })
+      | inr e ↦
+          subst (Waited f st n) (sym (d ∙ no-time n f e))
+          (record { same-setup = refl; ties = t; means = sym (cond-false (leb n longest) _ _ e) })
+    ]
 
 tied-moved : (f : Flash) (n : ℕ) (st : Standing) → tied (moved f n) st ≡ tied f st
 tied-moved f n Idle = refl
@@ -261,12 +266,13 @@ looks f st b n a h g v s t r short e d w x =
     let m : h ≡ moved (steps n f) n = d ∙ after-is n f (leb-true _ _ short) (s .counted) in
     let lm = look-moved (steps n f) n at in
     let v-is : v ≡ look-verdict (steps n f) at =
-      w ∙ ap (look-verdict h) e ∙ ap (λ (y : Flash). look-verdict y at) m ∙ lm .1 in
+    w ∙ ap (look-verdict h) e ∙ ap (λ (y : Flash). look-verdict y at) m ∙ lm .1 in
     let g-is : g ≡ moved (looked (steps n f) at) n =
-      x ∙ ap (looked h) e ∙ ap (λ (y : Flash). looked y at) m ∙ lm .0 in
+    x ∙ ap (looked h) e ∙ ap (λ (y : Flash). looked y at) m ∙ lm .0 in
     subst (λ (y : Verdict). Looked f b n y g) (sym v-is)
     (subst (Looked f b n (look-verdict (steps n f) at)) (sym g-is) (record {
       tells = o .tells;
       means = o .means;
       ties = tied-moved (looked (steps n f) at) n (stands-after b (look-verdict (steps n f) at)) ∙ o .ties;
-      same-setup = o .same-setup }))
+      same-setup = o .same-setup;
+    }))

@@ -47,32 +47,34 @@ pub data Found (f : Flash) (a byte i : ℕ) (v : Verdict) (g : Flash) : Type 0 w
 
 pub find : (f : Flash) (a byte : ℕ) → byte < 256 → Clear f a byte → Sound f → (i : ℕ) → i < program-time f a byte → (t : Bool)
     → Found f a byte i (poll-verdict (moved (programs f a byte (program-time f a byte - i) t) i) a byte)
-      (polled (moved (programs f a byte (program-time f a byte - i) t) i) a)
+    (polled (moved (programs f a byte (program-time f a byte - i) t) i) a)
 find f a byte small k s i h t =
     let span : ℕ = program-time f a byte in
     elim (cases-lt 1 (span - i)) [
-      inl l ↦
-        let p = busy-poll f a byte small k (span - i) t i (omega arith) in
-        let e : span - i - 1 ≡ span - (i + 1) = omega arith in
-        goes-on (p .1) (omega arith) (not t) (p .0 ∙ ap (λ (n : ℕ). moved (programs f a byte n (not t)) (i + 1)) e)
-    | inr l ↦
-        let one : span - i ≡ 1 = omega arith in
-        subst (λ (n : ℕ). Found f a byte i (poll-verdict (moved (programs f a byte n t) i) a byte) (polled (moved (programs f a byte n t) i) a)) (sym one)
-        (elim (cases-bool (worn f a)) [
-          inl w ↦
-            let p = worn-poll f a byte small k t i w in
-            let n : i + 1 ≡ 300 = omega (arith, span-is f a byte k ∙ cond-true (worn f a) _ _ w) in
-            failed (p .1) (ap not (sym w))
-            (ap (λ (g : Flash). written g a 0xF0) (p .0)
-             ∙ written-moved (with-state f (Broken byte (not t))) (i + 1) a 0xF0
-             ∙ ap (λ (g : Flash). moved g (i + 1)) (write-in (with-state f (Broken byte (not t))) (Broken byte (not t)) refl a 0xF0 (k .within))
-             ∙ ap (moved (with-state f read-mode)) n
-             ∙ sym (cond-true (worn f a) _ _ w))
-        | inr w ↦
-            let p = sound-poll f a byte small k s t i w in
-            let n : i + 1 ≡ f .setup .program = omega (arith, span-is f a byte k ∙ cond-false (worn f a) _ _ w) in
-            done (p .1) (ap not (sym w))
-            (p .0 ∙ ap (moved (with-cells f (set (f .cells) a byte) read-mode)) n ∙ sym (cond-false (worn f a) _ _ w)) ]) ]
+      | inl l ↦
+          let p = busy-poll f a byte small k (span - i) t i (omega arith) in
+          let e : span - i - 1 ≡ span - (i + 1) = omega arith in
+          goes-on (p .1) (omega arith) (not t) (p .0 ∙ ap (λ (n : ℕ). moved (programs f a byte n (not t)) (i + 1)) e)
+      | inr l ↦
+          let one : span - i ≡ 1 = omega arith in
+          subst (λ (n : ℕ). Found f a byte i (poll-verdict (moved (programs f a byte n t) i) a byte) (polled (moved (programs f a byte n t) i) a)) (sym one)
+          (elim (cases-bool (worn f a)) [
+            | inl w ↦
+                let p = worn-poll f a byte small k t i w in
+                let n : i + 1 ≡ 300 = omega (arith, span-is f a byte k ∙ cond-true (worn f a) _ _ w) in
+                failed (p .1) (ap not (sym w))
+                (ap (λ (g : Flash). written g a 0xF0) (p .0)
+                ∙ written-moved (with-state f (Broken byte (not t))) (i + 1) a 0xF0
+                ∙ ap (λ (g : Flash). moved g (i + 1)) (write-in (with-state f (Broken byte (not t))) (Broken byte (not t)) refl a 0xF0 (k .within))
+                ∙ ap (moved (with-state f read-mode)) n
+                ∙ sym (cond-true (worn f a) _ _ w))
+            | inr w ↦
+                let p = sound-poll f a byte small k s t i w in
+                let n : i + 1 ≡ f .setup .program = omega (arith, span-is f a byte k ∙ cond-false (worn f a) _ _ w) in
+                done (p .1) (ap not (sym w))
+                (p .0 ∙ ap (moved (with-cells f (set (f .cells) a byte) read-mode)) n ∙ sym (cond-false (worn f a) _ _ w))
+          ])
+    ]
 
 -- The same by what was found.
 pub if-busy : {f : Flash} {a byte i : ℕ} {v : Verdict} {g : Flash} → Found f a byte i v g → v ≡ Busy
@@ -100,7 +102,7 @@ pub found : (f : Flash) (a byte : ℕ) → byte < 256 → Clear f a byte → Sou
 found f a byte small k s i h g v inv e d =
     let x = inv .1 .1 in
     let w : v ≡ poll-verdict (moved (programs f a byte (program-time f a byte - i) (inv .1 .0)) i) a byte =
-      e ∙ ap (λ (y : Flash). poll-verdict y a byte) x in
+    e ∙ ap (λ (y : Flash). poll-verdict y a byte) x in
     let z : g ≡ polled (moved (programs f a byte (program-time f a byte - i) (inv .1 .0)) i) a = d ∙ ap (λ (y : Flash). polled y a) x in
     subst (λ (y : Verdict). Found f a byte i y g) (sym w)
     (subst (Found f a byte i _) (sym z) (find f a byte small k s i (inv .0) (inv .1 .0)))

@@ -64,29 +64,31 @@ module _ (f : Flash) (e : Erase) (a : ℕ) (i : inside f a ≡ true) where
 
   not-yet : (wait n : ℕ) (t : Bool) → 2 ≤ wait
       → (twice-seen (moved (halting f e wait t) n) a ≡ moved (halting f e (wait - 1) (not (not t))) (n + 1))
-        × (stands-still (moved (halting f e wait t) n) a ≡ false)
+      × (stands-still (moved (halting f e wait t) n) a ≡ false)
   not-yet wait n t h =
       let m : max 1 wait ≡ wait = omega arith in
       let on : steps 1 (halting f e wait t) ≡ halting f e (wait - 1) t = until 1 wait (halting f e wait t) (ap Some m) (omega arith) in
-      let s : State = Suspending (with-toggle e t) (wait - 1) in
-      (twice-is (halting f e wait t) n a ∙ ap (λ (g : Flash). moved (seen (seen g a) a) (n + 1)) on ∙ ap (λ (g : Flash). moved g (n + 1)) (two-reads s),
-       still-is (halting f e wait t) n a
-       ∙ ap (λ (g : Flash). eqb (dq6 (byte-of (answered g a))) (dq6 (byte-of (answered (seen g a) a)))) on
-       ∙ two-bytes s
-       ∙ ap (λ (x : ℕ). eqb x (dq6 (status 0xFF (not t) false (begun (e .phase))))) (toggle-shows t (begun (e .phase)))
-       ∙ ap (λ (x : ℕ). eqb (cond t 1 0) x) (toggle-shows (not t) (begun (e .phase)))
-       ∙ differ t)
+      let s : State = Suspending (with-toggle e t) (wait - 1) in (
+        twice-is (halting f e wait t) n a ∙ ap (λ (g : Flash). moved (seen (seen g a) a) (n + 1)) on ∙ ap (λ (g : Flash). moved g (n + 1)) (two-reads s),
+        still-is (halting f e wait t) n a
+            ∙ ap (λ (g : Flash). eqb (dq6 (byte-of (answered g a))) (dq6 (byte-of (answered (seen g a) a)))) on
+            ∙ two-bytes s
+            ∙ ap (λ (x : ℕ). eqb x (dq6 (status 0xFF (not t) false (begun (e .phase))))) (toggle-shows t (begun (e .phase)))
+            ∙ ap (λ (x : ℕ). eqb (cond t 1 0) x) (toggle-shows (not t) (begun (e .phase)))
+            ∙ differ t,
+      )
 
   at-last : (n : ℕ) (t : Bool)
       → (twice-seen (moved (halting f e 1 t) n) a ≡ moved (with-state f (Suspended (with-toggle e t))) (n + 1))
-        × (stands-still (moved (halting f e 1 t) n) a ≡ true)
+      × (stands-still (moved (halting f e 1 t) n) a ≡ true)
   at-last n t =
       let on : steps 1 (halting f e 1 t) ≡ with-state f (Suspended (with-toggle e t)) = over 1 (halting f e 1 t) refl in
-      let s : State = Suspended (with-toggle e t) in
-      (twice-is (halting f e 1 t) n a ∙ ap (λ (g : Flash). moved (seen (seen g a) a) (n + 1)) on ∙ ap (λ (g : Flash). moved g (n + 1)) (two-reads s),
-       still-is (halting f e 1 t) n a
-       ∙ ap (λ (g : Flash). eqb (dq6 (byte-of (answered g a))) (dq6 (byte-of (answered (seen g a) a)))) on
-       ∙ two-bytes s ∙ eq-eqb _ _ refl)
+      let s : State = Suspended (with-toggle e t) in (
+        twice-is (halting f e 1 t) n a ∙ ap (λ (g : Flash). moved (seen (seen g a) a) (n + 1)) on ∙ ap (λ (g : Flash). moved g (n + 1)) (two-reads s),
+        still-is (halting f e 1 t) n a
+            ∙ ap (λ (g : Flash). eqb (dq6 (byte-of (answered g a))) (dq6 (byte-of (answered (seen g a) a)))) on
+            ∙ two-bytes s ∙ eq-eqb _ _ refl,
+      )
 
 -- What a turn finds.
 pub still-halting : (f : Flash) (i : inside f 0 ≡ true) (n : ℕ) (h g : Flash) (r : Bool)
@@ -98,16 +100,18 @@ still-halting f i n h g r inv e d no-end =
     let x = erase-of (f .state) in
     let t = inv .1 .0 in
     elim (cases-lt 1 (s - n)) [
-      inl l ↦
-        let p = not-yet f x 0 i (s - n) n t (omega arith) in
-        let k : s - n - 1 ≡ s - (n + 1) = omega (arith, inv .0) in
-        (omega (arith, inv .0),
-         (not (not t), d ∙ ap (λ (y : Flash). twice-seen y 0) (inv .1 .1) ∙ p .0 ∙ ap (λ (w : ℕ). moved (halting f x w (not (not t))) (n + 1)) k))
-    | inr l ↦
-        let one : s - n ≡ 1 = omega (arith, inv .0) in
-        let p = at-last f x 0 i n t in
-        absurd (both-ways r no-end
-          (e ∙ ap (λ (y : Flash). stands-still y 0) (inv .1 .1 ∙ ap (λ (w : ℕ). moved (halting f x w t) n) one) ∙ p .1)) ]
+      | inl l ↦
+          let p = not-yet f x 0 i (s - n) n t (omega arith) in
+          let k : s - n - 1 ≡ s - (n + 1) = omega (arith, inv .0) in (
+            omega (arith, inv .0),
+            (not (not t), d ∙ ap (λ (y : Flash). twice-seen y 0) (inv .1 .1) ∙ p .0 ∙ ap (λ (w : ℕ). moved (halting f x w (not (not t))) (n + 1)) k),
+          )
+      | inr l ↦
+          let one : s - n ≡ 1 = omega (arith, inv .0) in
+          let p = at-last f x 0 i n t in
+          absurd (both-ways r no-end
+          (e ∙ ap (λ (y : Flash). stands-still y 0) (inv .1 .1 ∙ ap (λ (w : ℕ). moved (halting f x w t) n) one) ∙ p .1))
+    ]
 
 pub now-halted : (f : Flash) (i : inside f 0 ≡ true) (n : ℕ) (h g : Flash) (r : Bool)
     → (n < f .setup .suspend) × ((t : Bool) × (h ≡ moved (halting f (erase-of (f .state)) (f .setup .suspend - n) t) n))
@@ -117,17 +121,19 @@ now-halted f i n h g r inv e d end =
     let x = erase-of (f .state) in
     let t = inv .1 .0 in
     elim (cases-lt 1 (s - n)) [
-      inl l ↦
-        let p = not-yet f x 0 i (s - n) n t (omega arith) in
-        absurd (both-ways r (e ∙ ap (λ (y : Flash). stands-still y 0) (inv .1 .1) ∙ p .1) end)
-    | inr l ↦
-        let one : s - n ≡ 1 = omega (arith, inv .0) in
-        let k : n + 1 ≡ s = omega (arith, inv .0) in
-        let p = at-last f x 0 i n t in
-        record {
-          toggle = t;
-          is = d ∙ ap (λ (y : Flash). twice-seen y 0) (inv .1 .1 ∙ ap (λ (w : ℕ). moved (halting f x w t) n) one) ∙ p .0
-               ∙ ap (moved (with-state f (Suspended (with-toggle x t)))) k } ]
+      | inl l ↦
+          let p = not-yet f x 0 i (s - n) n t (omega arith) in
+          absurd (both-ways r (e ∙ ap (λ (y : Flash). stands-still y 0) (inv .1 .1) ∙ p .1) end)
+      | inr l ↦
+          let one : s - n ≡ 1 = omega (arith, inv .0) in
+          let k : n + 1 ≡ s = omega (arith, inv .0) in
+          let p = at-last f x 0 i n t in
+          record {
+            toggle = t;
+            is = d ∙ ap (λ (y : Flash). twice-seen y 0) (inv .1 .1 ∙ ap (λ (w : ℕ). moved (halting f x w t) n) one) ∙ p .0
+                ∙ ap (moved (with-state f (Suspended (with-toggle x t)))) k;
+          }
+    ]
 
 -- B0h begins the suspension of a running erase.
 pub begins-halt : (f : Flash) → inside f 0 ≡ true → f .state ≡ Erasing (erase-of (f .state))

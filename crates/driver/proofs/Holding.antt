@@ -31,12 +31,14 @@ held-driven f st b g s t r h =
     let e = erase-of (f .state) in
     let k = when-running f st b t r in
     let left : left-of f (with-toggle e (h .toggle)) (e .phase) ≡ time-left f (f .state) =
-      toggle-left f e (h .toggle) (e .phase) ∙ sym (ap (time-left f) (k .0)) in
-    subst (λ (x : Standing). (Done ≡ can-hold (erasure-in f x)) × Held (meaning f x) (meaning g (Held-block b))) (sym r)
-    (refl,
-     record {
-       time = f .setup .suspend;
-       low = omega arith;
-       high = limits (f .setup) (s .limits) .suspend-high;
-       is = ap (λ (x : Flash). meaning x (Held-block b)) (h .is)
-            ∙ ap (λ (n : ℕ). ticked (with-erasure (meaning f (Running b)) (Some (record { block = b; left = n; running = false }))) (f .setup .suspend)) left })
+    toggle-left f e (h .toggle) (e .phase) ∙ sym (ap (time-left f) (k .0)) in
+    subst (λ (x : Standing). (Done ≡ can-hold (erasure-in f x)) × Held (meaning f x) (meaning g (Held-block b))) (sym r) (
+      refl,
+      record {
+        time = f .setup .suspend;
+        low = omega arith;
+        high = limits (f .setup) (s .limits) .suspend-high;
+        is = ap (λ (x : Flash). meaning x (Held-block b)) (h .is)
+            ∙ ap (λ (n : ℕ). ticked (with-erasure (meaning f (Running b)) (Some (record { block = b; left = n; running = false }))) (f .setup .suspend)) left;
+      },
+    )

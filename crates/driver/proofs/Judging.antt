@@ -15,14 +15,16 @@ use Rattle.driver.specs.Status.{dq7, judged}
 pub judged-busy : (byte : ℕ) → byte < 256 → (toggle begun : Bool) → judged (status byte toggle false begun) byte ≡ Busy
 judged-busy byte h toggle begun =
     elim (cases-lt byte 128) [
-      inl l ↦ let z : byte / 128 ≡ 0 = omega arith in rw (lt-ltb byte 128 l, z) (low toggle begun)
-    | inr l ↦ let z : byte / 128 ≡ 1 = omega arith in rw (le-ltb byte 128 l, z) (high toggle begun) ]
+      | inl l ↦ let z : byte / 128 ≡ 0 = omega arith in rw (lt-ltb byte 128 l, z) (low toggle begun)
+      | inr l ↦ let z : byte / 128 ≡ 1 = omega arith in rw (le-ltb byte 128 l, z) (high toggle begun)
+    ]
   where
     low : (t b : Bool) → cond (eqb (dq7 (128 + cond t 64 0 + 0 + cond b 8 0)) 0) Done (cond (eqb ((128 + cond t 64 0 + 0 + cond b 8 0) / 32 % 2) 1) Failed Busy) ≡ Busy
     low true true = refl
     low true false = refl
     low false true = refl
     low false false = refl
+
     high : (t b : Bool) → cond (eqb (dq7 (0 + cond t 64 0 + 0 + cond b 8 0)) 1) Done (cond (eqb ((0 + cond t 64 0 + 0 + cond b 8 0) / 32 % 2) 1) Failed Busy) ≡ Busy
     high true true = refl
     high true false = refl
@@ -33,12 +35,14 @@ judged-busy byte h toggle begun =
 pub judged-failed : (byte : ℕ) → byte < 256 → (toggle : Bool) → judged (status byte toggle true true) byte ≡ Failed
 judged-failed byte h toggle =
     elim (cases-lt byte 128) [
-      inl l ↦ let z : byte / 128 ≡ 0 = omega arith in rw (lt-ltb byte 128 l, z) (low toggle)
-    | inr l ↦ let z : byte / 128 ≡ 1 = omega arith in rw (le-ltb byte 128 l, z) (high toggle) ]
+      | inl l ↦ let z : byte / 128 ≡ 0 = omega arith in rw (lt-ltb byte 128 l, z) (low toggle)
+      | inr l ↦ let z : byte / 128 ≡ 1 = omega arith in rw (le-ltb byte 128 l, z) (high toggle)
+    ]
   where
     low : (t : Bool) → cond (eqb (dq7 (128 + cond t 64 0 + 32 + 8)) 0) Done (cond (eqb ((128 + cond t 64 0 + 32 + 8) / 32 % 2) 1) Failed Busy) ≡ Failed
     low true = refl
     low false = refl
+
     high : (t : Bool) → cond (eqb (dq7 (0 + cond t 64 0 + 32 + 8)) 1) Done (cond (eqb ((0 + cond t 64 0 + 32 + 8) / 32 % 2) 1) Failed Busy) ≡ Failed
     high true = refl
     high false = refl

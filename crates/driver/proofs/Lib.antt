@@ -3,6 +3,7 @@ pub mod Calling
 pub mod Commands
 pub mod Elapsing
 pub mod Finishing
+pub mod Guarding
 pub mod Halting
 pub mod Holding
 pub mod Judging

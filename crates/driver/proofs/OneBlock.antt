@@ -25,17 +25,18 @@ filled-one sizes b v cells l =
     ext-getD 0 (filled sizes (2 ^ b) v cells) (wiped sizes b v cells)
     (length-filled sizes (2 ^ b) v cells ∙ sym (length-wiped sizes b v cells))
     (λ k h.
-      let within : k < length cells = omega (arith, length-filled sizes (2 ^ b) v cells) in
-      filled-at sizes (2 ^ b) v cells k within
-      ∙ ap (λ (t : Bool). cond t v (getD cells k 0)) (own k)
-      ∙ sym (wiped-at sizes b v cells k l within))
+    let within : k < length cells = omega (arith, length-filled sizes (2 ^ b) v cells) in
+    filled-at sizes (2 ^ b) v cells k within
+    ∙ ap (λ (t : Bool). cond t v (getD cells k 0)) (own k)
+    ∙ sym (wiped-at sizes b v cells k l within))
   where
     own : (k : ℕ) → (ltb (block-of sizes k) (length sizes) && bit (2 ^ b) (block-of sizes k)) ≡ eqb (block-of sizes k) b
     own k = elim (cases-eq (block-of sizes k) b) [
-        inl e ↦ rw (bit-one b (block-of sizes k), eq-eqb _ _ e, lt-ltb (block-of sizes k) (length sizes) (omega arith))
+      | inl e ↦ rw (bit-one b (block-of sizes k), eq-eqb _ _ e, lt-ltb (block-of sizes k) (length sizes) (omega arith))
       | inr n ↦
           let z : bit (2 ^ b) (block-of sizes k) ≡ false = bit-one b (block-of sizes k) ∙ ne-eqb _ _ n in
-          and-right _ _ z ∙ sym (ne-eqb _ _ n) ]
+          and-right _ _ z ∙ sym (ne-eqb _ _ n)
+    ]
 
 module _ (f : Flash) (b : ℕ) (l : b < 11) (np : bit (f .setup .protected) b ≡ false) where
   pub erasable-one : erasable f (2 ^ b) ≡ 2 ^ b

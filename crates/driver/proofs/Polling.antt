@@ -54,16 +54,17 @@ module _ (f : Flash) (a byte : ℕ) (small : byte < 256) (k : Clear f a byte) wh
 
   pub busy-poll : (left : ℕ) (t : Bool) (i : ℕ) → 2 ≤ left
       → (polled (moved (programs f a byte left t) i) a ≡ moved (programs f a byte (left - 1) (not t)) (i + 1))
-        × (poll-verdict (moved (programs f a byte left t) i) a byte ≡ Busy)
+      × (poll-verdict (moved (programs f a byte left t) i) a byte ≡ Busy)
   busy-poll left t i h =
-      let g : Flash = programs f a byte (left - 1) t in
-      (polled-is (programs f a byte left t) i a
-       ∙ ap (λ (x : Flash). moved (seen x a) (i + 1)) (busy-state left t h)
-       ∙ ap (λ (x : Flash). moved x (i + 1)) (see-in g a (k .within)),
-       verdict-is (programs f a byte left t) i a byte
-       ∙ ap (λ (x : Flash). judged (byte-of (answered x a)) byte) (busy-state left t h)
-       ∙ ap (λ (x : ℕ). judged x byte) (answer-in g a (k .within))
-       ∙ judged-busy byte small t false)
+      let g : Flash = programs f a byte (left - 1) t in (
+        polled-is (programs f a byte left t) i a
+            ∙ ap (λ (x : Flash). moved (seen x a) (i + 1)) (busy-state left t h)
+            ∙ ap (λ (x : Flash). moved x (i + 1)) (see-in g a (k .within)),
+        verdict-is (programs f a byte left t) i a byte
+            ∙ ap (λ (x : Flash). judged (byte-of (answered x a)) byte) (busy-state left t h)
+            ∙ ap (λ (x : ℕ). judged x byte) (answer-in g a (k .within))
+            ∙ judged-busy byte small t false,
+      )
 
   -- the last microsecond
   last-state : (t : Bool) → steps 1 (programs f a byte 1 t) ≡ ended (programs f a byte 1 t) (programs f a byte 1 t .state)
@@ -71,32 +72,34 @@ module _ (f : Flash) (a byte : ℕ) (small : byte < 256) (k : Clear f a byte) wh
 
   pub worn-poll : (t : Bool) (i : ℕ) → worn f a ≡ true
       → (polled (moved (programs f a byte 1 t) i) a ≡ moved (with-state f (Broken byte (not t))) (i + 1))
-        × (poll-verdict (moved (programs f a byte 1 t) i) a byte ≡ Failed)
+      × (poll-verdict (moved (programs f a byte 1 t) i) a byte ≡ Failed)
   worn-poll t i w =
       let g : Flash = with-state f (Broken byte t) in
-      let e : steps 1 (programs f a byte 1 t) ≡ g = last-state t ∙ cond-false (protected f a) _ _ (k .unprotected) ∙ cond-true (worn f a) _ _ w in
-      (polled-is (programs f a byte 1 t) i a
-       ∙ ap (λ (x : Flash). moved (seen x a) (i + 1)) e ∙ ap (λ (x : Flash). moved x (i + 1)) (see-in g a (k .within)),
-       verdict-is (programs f a byte 1 t) i a byte
-       ∙ ap (λ (x : Flash). judged (byte-of (answered x a)) byte) e
-       ∙ ap (λ (x : ℕ). judged x byte) (answer-in g a (k .within))
-       ∙ judged-failed byte small t)
+      let e : steps 1 (programs f a byte 1 t) ≡ g = last-state t ∙ cond-false (protected f a) _ _ (k .unprotected) ∙ cond-true (worn f a) _ _ w in (
+        polled-is (programs f a byte 1 t) i a
+            ∙ ap (λ (x : Flash). moved (seen x a) (i + 1)) e ∙ ap (λ (x : Flash). moved x (i + 1)) (see-in g a (k .within)),
+        verdict-is (programs f a byte 1 t) i a byte
+            ∙ ap (λ (x : Flash). judged (byte-of (answered x a)) byte) e
+            ∙ ap (λ (x : ℕ). judged x byte) (answer-in g a (k .within))
+            ∙ judged-failed byte small t,
+      )
 
   pub sound-poll : Sound f → (t : Bool) (i : ℕ) → worn f a ≡ false
       → (polled (moved (programs f a byte 1 t) i) a ≡ moved (with-cells f (set (f .cells) a byte) read-mode) (i + 1))
-        × (poll-verdict (moved (programs f a byte 1 t) i) a byte ≡ Done)
+      × (poll-verdict (moved (programs f a byte 1 t) i) a byte ≡ Done)
   sound-poll s t i w =
       let same : bitAnd (cell f a) byte ≡ byte = eqb-true _ _ (not-false _ (k .clears)) in
       let g : Flash = with-cells f (set (f .cells) a byte) read-mode in
       let within : a < length (f .cells) = omega (arith, s .whole, ltb-true _ _ (k .within)) in
       let e : steps 1 (programs f a byte 1 t) ≡ g =
-        last-state t ∙ cond-false (protected f a) _ _ (k .unprotected) ∙ cond-false (worn f a) _ _ w
-        ∙ ap (λ (x : Bool). with-cells f (set (f .cells) a (bitAnd (cell f a) byte)) (cond x (Broken byte t) read-mode)) (k .clears)
-        ∙ ap (λ (x : ℕ). with-cells f (set (f .cells) a x) read-mode) same in
-      let now : getD (set (f .cells) a byte) a 0 ≡ byte = getD-set-same (f .cells) a byte 0 within in
-      (polled-is (programs f a byte 1 t) i a
-       ∙ ap (λ (x : Flash). moved (seen x a) (i + 1)) e ∙ ap (λ (x : Flash). moved x (i + 1)) (see-in g a (k .within)),
-       verdict-is (programs f a byte 1 t) i a byte
-       ∙ ap (λ (x : Flash). judged (byte-of (answered x a)) byte) e
-       ∙ ap (λ (x : ℕ). judged x byte) (answer-in g a (k .within) ∙ now)
-       ∙ judged-done byte)
+      last-state t ∙ cond-false (protected f a) _ _ (k .unprotected) ∙ cond-false (worn f a) _ _ w
+      ∙ ap (λ (x : Bool). with-cells f (set (f .cells) a (bitAnd (cell f a) byte)) (cond x (Broken byte t) read-mode)) (k .clears)
+      ∙ ap (λ (x : ℕ). with-cells f (set (f .cells) a x) read-mode) same in
+      let now : getD (set (f .cells) a byte) a 0 ≡ byte = getD-set-same (f .cells) a byte 0 within in (
+        polled-is (programs f a byte 1 t) i a
+            ∙ ap (λ (x : Flash). moved (seen x a) (i + 1)) e ∙ ap (λ (x : Flash). moved x (i + 1)) (see-in g a (k .within)),
+        verdict-is (programs f a byte 1 t) i a byte
+            ∙ ap (λ (x : Flash). judged (byte-of (answered x a)) byte) e
+            ∙ ap (λ (x : ℕ). judged x byte) (answer-in g a (k .within) ∙ now)
+            ∙ judged-done byte,
+      )

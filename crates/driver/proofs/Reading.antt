@@ -72,7 +72,7 @@ module _ (f : Flash) (st : Standing) (s : Sound f) (t : tied f st ≡ true) wher
           let r = when-held f (Held b) b t refl in
           let e = erase-of (f .state) in
           let own : lies-in f (e .selected) a ≡ false =
-            ap (λ (m : ℕ). bit m (block-of (blocks f) a)) (r .1 .selected) ∙ bit-one b (block-of (blocks f) a) ∙ other in
+          ap (λ (m : ℕ). bit m (block-of (blocks f) a)) (r .1 .selected) ∙ bit-one b (block-of (blocks f) a) ∙ other in
           ap (λ (x : State). shown f x a) (r .0) ∙ cond-false (lies-in f (e .selected) a) _ _ own
         where
           other : eqb (block-of (blocks f) a) b ≡ false
@@ -81,16 +81,18 @@ module _ (f : Flash) (st : Standing) (s : Sound f) (t : tied f st ≡ true) wher
   -- the answer of a read
   pub read-ok : (a byte : ℕ) → answered f a ≡ Ok byte → Read (meaning f st) a (Ok byte)
   read-ok a byte e = record {
-      refused = λ o. let g = answered-out f a (outside-is a o) in let z : _≡_ {A = ℕ} 0 1 = cc in absurd (omega arith);
-      granted = λ o.
+    refused = λ o. let g = answered-out f a (outside-is a o) in let z : _≡_ {A = ℕ} 0 1 = cc in absurd (omega arith);
+    granted = λ o.
         let g = answered-in f a (inside-is a o) in
         let same : byte ≡ shown f (f .state) a = cc in
-        (byte, refl, λ h. same ∙ shows-cell a h) }
+        (byte, refl, λ h. same ∙ shows-cell a h);
+  }
 
   pub read-err : (a : ℕ) (x : ChipFault) → answered f a ≡ Err x → Read (meaning f st) a (Err (raised x))
   read-err a x e = record {
-      refused = λ o.
+    refused = λ o.
         let g = answered-out f a (outside-is a o) in
         let same : x ≡ record { cause = AddressOutside; place = a } = cc in
         ap (λ (y : ChipFault). Err (raised y)) same;
-      granted = λ o. let g = answered-in f a (inside-is a o) in let z : _≡_ {A = ℕ} 0 1 = cc in absurd (omega arith) }
+    granted = λ o. let g = answered-in f a (inside-is a o) in let z : _≡_ {A = ℕ} 0 1 = cc in absurd (omega arith);
+  }

@@ -36,11 +36,12 @@ due-in f e s one = let m : max 1 (e .left) ≡ e .left = omega arith in ap due s
 -- before the end of its phase
 short : (f : Flash) (e : Erase) → f .state ≡ Erasing e → 1 ≤ e .left → (n : ℕ) → n < e .left → Later f e (e .phase) n (steps n f)
 short f e s one n h = record {
-    erase = record { phase = e .phase; selected = e .selected; left = e .left - n; toggle = e .toggle };
-    is = until n (e .left) f (due-in f e s one) h ∙ ap (λ (x : State). with-state f (lowered n x)) s;
-    selected = refl;
-    lasts = omega arith;
-    left = later-left f e n (omega arith) (e .phase) }
+  erase = record { phase = e .phase; selected = e .selected; left = e .left - n; toggle = e .toggle };
+  is = until n (e .left) f (due-in f e s one) h ∙ ap (λ (x : State). with-state f (lowered n x)) s;
+  selected = refl;
+  lasts = omega arith;
+  left = later-left f e n (omega arith) (e .phase);
+}
 
 -- the end of its phase
 whole : (f : Flash) (e : Erase) → f .state ≡ Erasing e → 1 ≤ e .left → (p : Phase) → e .phase ≡ p → steps (e .left) f ≡ erased f e p
@@ -65,16 +66,18 @@ module _ (f : Flash) (e : Erase) (s : f .state ≡ Erasing e) (one : 1 ≤ e .le
   goes-on Begun w n h = subst (λ (p : Phase). Later f e p n (steps n f)) w (short f e s one n h)
   goes-on Window w n h =
       elim (cases-lt n (e .left)) [
-        inl l ↦ subst (λ (p : Phase). Later f e p n (steps n f)) w (short f e s one n l)
-      | inr l ↦
-          let g : Flash = with-state f (Erasing (begun f e)) in
-          let r = short g (begun f e) refl lasts (n - e .left) (omega arith) in
-          record {
-            erase = r .erase;
-            is = split-at-end f e n l ∙ ap (steps (n - e .left)) (whole f e s one Window w) ∙ r .is;
-            selected = r .selected;
-            lasts = r .lasts;
-            left = omega (arith, r .left) } ]
+        | inl l ↦ subst (λ (p : Phase). Later f e p n (steps n f)) w (short f e s one n l)
+        | inr l ↦
+            let g : Flash = with-state f (Erasing (begun f e)) in
+            let r = short g (begun f e) refl lasts (n - e .left) (omega arith) in
+            record {
+              erase = r .erase;
+              is = split-at-end f e n l ∙ ap (steps (n - e .left)) (whole f e s one Window w) ∙ r .is;
+              selected = r .selected;
+              lasts = r .lasts;
+              left = omega (arith, r .left);
+            }
+      ]
 
   -- when no time is left, it has ended
   pub ends : (p : Phase) → e .phase ≡ p → (n : ℕ) → left-of f e p ≤ n → steps n f ≡ erased f e Begun

@@ -112,10 +112,12 @@ seen-same f st a = by (inside f a)
     state (Suspending e w) = (refl, λ b. refl, λ b. refl, refl)
     state (Suspended e) = (refl, λ b. refl, λ b. refl, refl)
     state (Failed b t) = (refl, λ b. refl, λ b. refl, refl)
+
     tie : (st : Standing) → (tied (with-state f (flipped (f .state))) st ≡ tied f st) × (erasure-in (with-state f (flipped (f .state))) st ≡ erasure-in f st)
     tie Idle = (state (f .state) .0, refl)
     tie (Running b) = (state (f .state) .1 b, ap (λ (n : ℕ). Some (record { block = b; left = n; running = true })) (state (f .state) .3))
     tie (Held b) = (state (f .state) .2 b, ap (λ (n : ℕ). Some (record { block = b; left = n; running = false })) (state (f .state) .3))
+
     by : (t : Bool) → (tied (cond t (with-state f (flipped (f .state))) f) st ≡ tied f st) × (meaning (cond t (with-state f (flipped (f .state))) f) st ≡ meaning f st)
     by true = (tie st .0, ap (λ o. record { cells = f .cells; sizes = blocks f; guards = marks 0 (length (blocks f)) (f .setup .protected); wears = marks 0 (length (blocks f)) (f .setup .worn); erasure = o; clock = f .clock }) (tie st .1))
     by false = (refl, refl)
@@ -149,7 +151,7 @@ starts f b l =
     let P : Plan → Type 0 = λ p. below (length (p .sizes)) (λ (i : ℕ). ltb (start p i) (p .size) && eqb (block-of (p .sizes) (start p i)) i) ≡ true in
     let p = plan-of (f .setup .kind) in
     let t = at-below (length (p .sizes)) (λ (i : ℕ). ltb (start p i) (p .size) && eqb (block-of (p .sizes) (start p i)) i)
-      (every-plan P refl refl refl refl (f .setup .kind)) b l in
+    (every-plan P refl refl refl refl (f .setup .kind)) b l in
     let q = and-parts _ _ t in
     record { within = q .0; block = eqb-true _ _ (q .1) }
 
@@ -163,16 +165,18 @@ left-lasts f e Begun h = h
 
 pub lawful : (f : Flash) (st : Standing) → Sound f → tied f st ≡ true → Lawful (meaning f st)
 lawful f st s t = record {
-    whole = every-total (f .setup .kind) ∙ sym (s .whole);
-    small = omega (arith, s .whole, every-small (f .setup .kind));
-    few = omega (arith, every-few (f .setup .kind));
-    guards = length-marks 0 (length (blocks f)) (f .setup .protected);
-    wears = length-marks 0 (length (blocks f)) (f .setup .worn);
-    erasure = by st t;
-    clock = s .counted }
+  whole = every-total (f .setup .kind) ∙ sym (s .whole);
+  small = omega (arith, s .whole, every-small (f .setup .kind));
+  few = omega (arith, every-few (f .setup .kind));
+  guards = length-marks 0 (length (blocks f)) (f .setup .protected);
+  wears = length-marks 0 (length (blocks f)) (f .setup .worn);
+  erasure = by st t;
+  clock = s .counted;
+}
   where
     every-small : (kind : ℕ) → plan-of kind .size ≤ 16777216
     every-small kind = every-plan (λ (p : Plan). p .size ≤ 16777216) (lit≤ tt) (lit≤ tt) (lit≤ tt) (lit≤ tt) kind
+
     by : (st : Standing) → tied f st ≡ true → Erasure-lawful (length (blocks f)) (erasure-in f st)
     by Idle t = tt
     by (Running b) t =

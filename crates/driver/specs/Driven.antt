@@ -48,9 +48,13 @@ erasure-in f (Held b) = Some (record { block = b; left = time-left f (f .state);
 -- Its size, blocks, cells, guards, worn blocks and erasure are its chip's.
 abbrev pub meaning : Flash → Standing → Meaning
 meaning f standing = record {
-    cells = f .cells; sizes = blocks f;
-    guards = marks 0 (length (blocks f)) (f .setup .protected); wears = marks 0 (length (blocks f)) (f .setup .worn);
-    erasure = erasure-in f standing; clock = f .clock }
+  cells = f .cells;
+  sizes = blocks f;
+  guards = marks 0 (length (blocks f)) (f .setup .protected);
+  wears = marks 0 (length (blocks f)) (f .setup .worn);
+  erasure = erasure-in f standing;
+  clock = f .clock;
+}
 
 abbrev pub is-read : Mode → Bool
 is-read Read = true

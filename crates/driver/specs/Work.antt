@@ -4,6 +4,7 @@ use mathlib.Core.Path.{_≡_}
 use mathlib.Core.Bool.{Bool, true, false, cond}
 use lib.Dec.{eqb}
 use lib.ListN.{set}
+use Rattle.geometry.specs.Blocks.{bit}
 use Rattle.chip.specs.declared.state.Phase.the-variants.{Window}
 use Rattle.chip.specs.declared.state.State.{State}
 use Rattle.chip.specs.declared.state.Erase.{Erase}
@@ -84,3 +85,7 @@ look-verdict f a = judged (byte-of (answered f a)) 0xFF
 
 abbrev pub looked : Flash → ℕ → Flash
 looked f a = mended (seen f a) a (look-verdict f a)
+
+-- what a chip in ID mode answers for the guard of block b
+abbrev pub guard-answer : Flash → ℕ → ℕ
+guard-answer f b = cond (bit (f .setup .protected) b) 1 0

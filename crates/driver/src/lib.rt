@@ -3,6 +3,7 @@ mod bus;
 mod calls;
 mod driven;
 mod erase;
+mod making;
 mod passing;
 mod program;
 mod questions;

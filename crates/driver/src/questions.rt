@@ -42,7 +42,7 @@ impl Driven {
     {
         match self.standing {
             Standing::Idle => false,
-            Standing::Running(_) => true,
+            Standing::Running(_) => true, // every block
             Standing::Suspended(own) => own == self.block_at(address),
         }
     }

@@ -13,11 +13,9 @@ pub enum Verdict {
 pub(crate) fn judge(seen: u8, wanted: u8) -> Verdict
     ensures { λ r. ⌜ r ≡ judged seen wanted ⌝ }
 {
-    if seen / 128 == wanted / 128 {
-        Verdict::Done
-    } else if seen / 32 % 2 == 1 {
-        Verdict::Failed
-    } else {
-        Verdict::Busy
+    match (seen / 128 == wanted / 128, seen / 32 % 2 == 1) {
+        (true, _) => Verdict::Done,
+        (_, true) => Verdict::Failed,
+        _ => Verdict::Busy,
     }
 }

@@ -92,7 +92,7 @@ and-one zero x = and-step 1 x ∙ last (x % 2) (omega arith) ∙ ap (λ (t : Boo
     last (suc (suc y)) h = absurd (omega arith)
 and-one (suc b) x =
     let a : bitAnd (2 ^ suc b / 2) (x / 2) ≡ cond (bit (x / 2) b) (2 ^ b) 0 =
-      ap (λ (y : ℕ). bitAnd y (x / 2)) (half-pow b) ∙ and-one b (x / 2) in
+    ap (λ (y : ℕ). bitAnd y (x / 2)) (half-pow b) ∙ and-one b (x / 2) in
     let m : min (2 ^ suc b % 2) (x % 2) ≡ 0 = omega (arith, even-pow b) in
     let d : cond (bit (x / 2) b) (2 ^ b) 0 * 2 + 0 ≡ cond (bit (x / 2) b) (2 ^ suc b) 0 = twice (bit (x / 2) b) in
     and-step (2 ^ suc b) x

@@ -13,10 +13,11 @@ finish-requires c κs =
     let byte = c .args .byte in
     let k = c .pre .clear in
     let e : view (c .put .last .chip) ≡ programs f a byte (program-time f a byte) false =
-      c .put .ensures ∙ ap (λ (g : Flash). written g a byte) (c .command .ensures) ∙ begins-program f a byte (c .pre .ready) (k .within) in
+    c .put .ensures ∙ ap (λ (g : Flash). written g a byte) (c .command .ensures) ∙ begins-program f a byte (c .pre .ready) (k .within) in
     record {
       clear = subst (λ (x : Flash). Clear x a byte) (sym e) (record { within = k .within; unprotected = k .unprotected; clears = k .clears });
-      begun = subst (λ (x : Flash). x ≡ programs x a byte (program-time x a byte) false) (sym e) refl }
+      begun = subst (λ (x : Flash). x ≡ programs x a byte (program-time x a byte) false) (sym e) refl;
+    }
 
 pub returns : need.returns
 returns c =
@@ -25,7 +26,8 @@ returns c =
     let byte = c .args .byte in
     let k = c .pre .clear in
     let e : view (c .put .last .chip) ≡ programs f a byte (program-time f a byte) false =
-      c .put .ensures ∙ ap (λ (g : Flash). written g a byte) (c .command .ensures) ∙ begins-program f a byte (c .pre .ready) (k .within) in
+    c .put .ensures ∙ ap (λ (g : Flash). written g a byte) (c .command .ensures) ∙ begins-program f a byte (c .pre .ready) (k .within) in
     record {
       answer = c .finish .ensures .answer ∙ ap (λ (x : Flash). not (worn x a)) e;
-      chip = c .finish .ensures .chip ∙ ap (λ (x : Flash). programmed x a byte) e }
+      chip = c .finish .ensures .chip ∙ ap (λ (x : Flash). programmed x a byte) e;
+    }

@@ -14,11 +14,14 @@ loop-turn-holds c =
     let s = c .args .chip .now in
     let f = view s in
     let e = erase-of (f .state) in
-    let n : f .setup .suspend - 0 ≡ f .setup .suspend = omega arith in
-    (omega (arith, limits (s .setup) (s .limits) .suspend-low),
-     (e .toggle,
-      ap (with-state f) (c .pre .begun) ∙ ap (λ (k : ℕ). halting f e k (e .toggle)) (sym n)
-      ∙ sym (moved-none (halting f e (f .setup .suspend - 0) (e .toggle)) (s .counted))))
+    let n : f .setup .suspend - 0 ≡ f .setup .suspend = omega arith in (
+      omega (arith, limits (s .setup) (s .limits) .suspend-low),
+      (
+        e .toggle,
+        ap (with-state f) (c .pre .begun) ∙ ap (λ (k : ℕ). halting f e k (e .toggle)) (sym n)
+            ∙ sym (moved-none (halting f e (f .setup .suspend - 0) (e .toggle)) (s .counted)),
+      ),
+    )
 
 pub returns-then-still : need.returns-then-still
 returns-then-still c =

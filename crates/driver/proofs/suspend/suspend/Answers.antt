@@ -12,14 +12,15 @@ pub settle-requires : need.settle-requires
 settle-requires c κs =
     let f = view (c .args .chip .now) in
     let e : view (c .put .last .chip) ≡ with-state f (Suspending (erase-of (f .state)) (f .setup .suspend)) =
-      c .put .ensures ∙ begins-halt f (c .pre .inside) (c .pre .runs) in
+    c .put .ensures ∙ begins-halt f (c .pre .inside) (c .pre .runs) in
     record {
       inside = subst (λ (x : Flash). inside x 0 ≡ true) (sym e) (c .pre .inside);
-      begun = subst (λ (x : Flash). x .state ≡ Suspending (erase-of (x .state)) (x .setup .suspend)) (sym e) refl }
+      begun = subst (λ (x : Flash). x .state ≡ Suspending (erase-of (x .state)) (x .setup .suspend)) (sym e) refl;
+    }
 
 pub returns : need.returns
 returns c =
     let f = view (c .args .chip .now) in
     let e : view (c .put .last .chip) ≡ with-state f (Suspending (erase-of (f .state)) (f .setup .suspend)) =
-      c .put .ensures ∙ begins-halt f (c .pre .inside) (c .pre .runs) in
+    c .put .ensures ∙ begins-halt f (c .pre .inside) (c .pre .runs) in
     same-halt f (view (c .settle .last .chip)) (subst (λ (x : Flash). Halted x (x .setup .suspend) (view (c .settle .last .chip))) e (c .settle .ensures))

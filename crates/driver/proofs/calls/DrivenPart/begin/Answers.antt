@@ -17,7 +17,8 @@ returns-in-Break-may-begin c =
     let e : answer (begin-no m b) b tt ≡ Err (c .in-Break-may-begin .field-0 .0) = sym (c .may-begin .ensures) ∙ c .in-Break-may-begin .was tt in
     record {
       answer = p .1 ∙ ap Err (p .2) ∙ sym e;
-      begun = subst (λ (o : Option Cause). Begun-by m b o m) (sym (answer-err (begin-no m b) b tt (c .in-Break-may-begin .field-0 .0) e .0)) refl }
+      begun = subst (λ (o : Option Cause). Begun-by m b o m) (sym (answer-err (begin-no m b) b tt (c .in-Break-may-begin .field-0 .0) e .0)) refl;
+    }
 
 pub start-requires : need.start-requires
 start-requires c κs =
@@ -30,4 +31,5 @@ returns c =
     let no-cause : begin-no m b ≡ None = answer-ok (begin-no m b) _ _ _ (sym (c .may-begin .ensures) ∙ c .in-Continue-may-begin .was tt) in
     record {
       answer = sym (ap (λ (o : Option Cause). answer o b tt) no-cause);
-      begun = subst (λ (o : Option Cause). Begun-by m b o (means (c .start .last .self))) (sym no-cause) (c .start .ensures) }
+      begun = subst (λ (o : Option Cause). Begun-by m b o (means (c .start .last .self))) (sym no-cause) (c .start .ensures);
+    }

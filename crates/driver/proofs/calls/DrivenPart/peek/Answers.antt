@@ -19,7 +19,8 @@ returns-in-Break-seen c =
     let b = read-broke m a (c .read .result) (c .in-Break-seen .field-0 .0) (c .read .ensures .answer) (c .in-Break-seen .was tt) in
     record {
       answer = p .1 ∙ ap Err (p .2 ∙ b .1) ∙ sym (ap (λ (o : Option Cause). answer o a (cell m a)) (peek-outside m a (b .0)));
-      same = c .read .ensures .same }
+      same = c .read .ensures .same;
+    }
 
 pub returns-then-hides : need.returns-then-hides
 returns-then-hides c =
@@ -27,10 +28,11 @@ returns-then-hides c =
     let a = c .args .address in
     let g = read-gave m a (c .read .result) (c .in-Continue-seen .seen) (c .read .ensures .answer) (c .in-Continue-seen .was tt) in
     let h : hides (m .erasure) (block m a) ≡ true =
-      ap (λ (x : Meaning). hides (x .erasure) (block x a)) (sym (c .read .ensures .same)) ∙ sym (c .hides .ensures) ∙ c .if-hides .taken in
+    ap (λ (x : Meaning). hides (x .erasure) (block x a)) (sym (c .read .ensures .same)) ∙ sym (c .hides .ensures) ∙ c .if-hides .taken in
     record {
       answer = sym (ap (λ (o : Option Cause). answer o a (cell m a)) (peek-hidden m a (g .0) h));
-      same = c .read .ensures .same }
+      same = c .read .ensures .same;
+    }
 
 pub returns : need.returns
 returns c =
@@ -38,7 +40,8 @@ returns c =
     let a = c .args .address in
     let g = read-gave m a (c .read .result) (c .in-Continue-seen .seen) (c .read .ensures .answer) (c .in-Continue-seen .was tt) in
     let h : hides (m .erasure) (block m a) ≡ false =
-      ap (λ (x : Meaning). hides (x .erasure) (block x a)) (sym (c .read .ensures .same)) ∙ sym (c .hides .ensures) ∙ c .if-hides .left in
+    ap (λ (x : Meaning). hides (x .erasure) (block x a)) (sym (c .read .ensures .same)) ∙ sym (c .hides .ensures) ∙ c .if-hides .left in
     record {
       answer = ap Ok (g .1 h) ∙ sym (ap (λ (o : Option Cause). answer o a (cell m a)) (peek-free m a (g .0) h));
-      same = c .read .ensures .same }
+      same = c .read .ensures .same;
+    }

@@ -10,15 +10,17 @@ program-requires c κs =
     let s = c .args .self .now in
     record {
       ready = burn-ready (view (s .chip)) (s .standing) (all-sound (s .chip)) (s .follows) (c .args .address) (c .args .byte) (c .pre);
-      clear = burn-clear (view (s .chip)) (s .standing) (all-sound (s .chip)) (s .follows) (c .args .address) (c .args .byte) (c .pre) }
+      clear = burn-clear (view (s .chip)) (s .standing) (all-sound (s .chip)) (s .follows) (c .args .address) (c .args .byte) (c .pre);
+    }
 
 pub ghost-self : need.ghost-self
 ghost-self c =
     let s = c .args .self .now in
     let f = view (s .chip) in
-    let g = view (c .program .last .chip) in
-    (subst (Knows (s .guards)) (sym (burn-setup f (s .standing) (all-sound (s .chip)) (s .follows) (c .args .address) (c .args .byte) (c .pre) g (c .program .ensures .chip))) (s .knows),
-     (burn-tied f (s .standing) (all-sound (s .chip)) (s .follows) (c .args .address) (c .args .byte) (c .pre) g (c .program .ensures .chip), tt))
+    let g = view (c .program .last .chip) in (
+      subst (Knows (s .guards)) (sym (burn-setup f (s .standing) (all-sound (s .chip)) (s .follows) (c .args .address) (c .args .byte) (c .pre) g (c .program .ensures .chip))) (s .knows),
+      (burn-tied f (s .standing) (all-sound (s .chip)) (s .follows) (c .args .address) (c .args .byte) (c .pre) g (c .program .ensures .chip), tt),
+    )
 
 pub returns : need.returns
 returns c =

@@ -21,4 +21,4 @@ returns-then-block-count c =
     let z : 0 + b ≡ b = omega arith in
     ap (λ (g : ℕ). bit g b) (s .knows) ∙ bit-low p (length (blocks f)) b l
     ∙ sym (mark-at 0 (length (blocks f)) p b ∙ ap (λ (k : ℕ). ltb b (length (blocks f)) && bit p k) z
-           ∙ ap (λ (t : Bool). t && bit p b) (lt-ltb b (length (blocks f)) l))
+    ∙ ap (λ (t : Bool). t && bit p b) (lt-ltb b (length (blocks f)) l))

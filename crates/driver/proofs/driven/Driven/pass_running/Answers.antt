@@ -33,7 +33,8 @@ returns-in-Break-pass c =
     let p = err-from-errBy (c .from-residual .result) (c .from-residual .ensures .1) in
     record {
       answer = p .1 ∙ ap Err (p .2 ∙ x .1) ∙ sym (refused-answer n _ (x .0));
-      passed = ap (λ (y : Flash). meaning y (s .standing)) e ∙ sym (cond-false _ _ _ (x .0)) }
+      passed = ap (λ (y : Flash). meaning y (s .standing)) e ∙ sym (cond-false _ _ _ (x .0));
+    }
 
 pub ghost-self-2 : need.ghost-self-2
 ghost-self-2 c =
@@ -41,10 +42,11 @@ ghost-self-2 c =
     let n = c .args .n in
     let short = short-enough n (sym (c .pass .ensures .answer) ∙ c .in-Continue-pass .was tt) in
     let l = looks (view (s .chip)) (s .standing) (c .args .block) n (c .start-of-at .result) (view (c .pass .last .self)) (view (c .look-verdict .last .chip))
-      (c .look-verdict .result) (all-sound (s .chip)) (s .follows) (c .pre) short (c .start-of-at .ensures) (c .pass .ensures .chip)
-      (c .look-verdict .ensures .verdict) (c .look-verdict .ensures .chip) in
-    (subst (Knows (s .guards)) (sym (l .same-setup)) (s .knows),
-     (ap (tied (view (c .look-verdict .last .chip))) (c .stands-after-self .ensures) ∙ l .ties, tt))
+    (c .look-verdict .result) (all-sound (s .chip)) (s .follows) (c .pre) short (c .start-of-at .ensures) (c .pass .ensures .chip)
+    (c .look-verdict .ensures .verdict) (c .look-verdict .ensures .chip) in (
+      subst (Knows (s .guards)) (sym (l .same-setup)) (s .knows),
+      (ap (tied (view (c .look-verdict .last .chip))) (c .stands-after-self .ensures) ∙ l .ties, tt),
+    )
 
 pub returns : need.returns
 returns c =
@@ -53,12 +55,13 @@ returns c =
     let n = c .args .n in
     let short = short-enough n (sym (c .pass .ensures .answer) ∙ c .in-Continue-pass .was tt) in
     let l = looks f (s .standing) (c .args .block) n (c .start-of-at .result) (view (c .pass .last .self)) (view (c .look-verdict .last .chip))
-      (c .look-verdict .result) (all-sound (s .chip)) (s .follows) (c .pre) short (c .start-of-at .ensures) (c .pass .ensures .chip)
-      (c .look-verdict .ensures .verdict) (c .look-verdict .ensures .chip) in
+    (c .look-verdict .result) (all-sound (s .chip)) (s .follows) (c .pre) short (c .start-of-at .ensures) (c .pass .ensures .chip)
+    (c .look-verdict .ensures .verdict) (c .look-verdict .ensures .chip) in
     record {
       answer =
-        ap Ok (c .progress-of .ensures ∙ sym (l .tells) ∙ ap (λ (t : Standing). progress (meaning f t) n (erasure-in f t)) (sym (c .pre)))
-        ∙ sym (granted-answer n _ short);
+          ap Ok (c .progress-of .ensures ∙ sym (l .tells) ∙ ap (λ (t : Standing). progress (meaning f t) n (erasure-in f t)) (sym (c .pre)))
+          ∙ sym (granted-answer n _ short);
       passed =
-        ap (meaning (view (c .look-verdict .last .chip))) (c .stands-after-self .ensures) ∙ l .means
-        ∙ ap (λ (t : Standing). passed (meaning f t) n) (sym (c .pre)) ∙ sym (cond-true _ _ _ short) }
+          ap (meaning (view (c .look-verdict .last .chip))) (c .stands-after-self .ensures) ∙ l .means
+          ∙ ap (λ (t : Standing). passed (meaning f t) n) (sym (c .pre)) ∙ sym (cond-true _ _ _ short);
+    }

@@ -24,7 +24,8 @@ returns-in-Break-pass c =
     let x = too-long n (c .in-Break-pass .field-0 .0) (sym (c .pass .ensures .answer) ∙ c .in-Break-pass .was tt) in
     record {
       answer = p .1 ∙ ap Err (p .2 ∙ x .1) ∙ sym (refused-answer n tt (x .0));
-      passed = w .means }
+      passed = w .means;
+    }
 
 pub returns : need.returns
 returns c =
@@ -33,4 +34,5 @@ returns c =
     let w = waited-still n (view (s .chip)) (view (c .pass .last .self)) (s .standing) (all-sound (s .chip)) (s .follows) (c .pre) (c .pass .ensures .chip) in
     record {
       answer = sym (granted-answer n tt (short-enough n (sym (c .pass .ensures .answer) ∙ c .in-Continue-pass .was tt)));
-      passed = w .means }
+      passed = w .means;
+    }

@@ -17,15 +17,17 @@ erase-requires c κs =
     let f = view (s .chip) in
     record {
       ready = begin-ready f (s .standing) (all-sound (s .chip)) (s .follows) (c .args .block) (c .pre);
-      inside = ap (λ (a : ℕ). inside f a) (c .start-of-at .ensures) ∙ begin-inside f (s .standing) (all-sound (s .chip)) (s .follows) (c .args .block) (c .pre) }
+      inside = ap (λ (a : ℕ). inside f a) (c .start-of-at .ensures) ∙ begin-inside f (s .standing) (all-sound (s .chip)) (s .follows) (c .args .block) (c .pre);
+    }
 
 pub ghost-self : need.ghost-self
 ghost-self c =
     let s = c .args .self .now in
     let f = view (s .chip) in
-    let e = c .erase .ensures ∙ ap (λ (a : ℕ). with-state f (Erasing (record { phase = Window; selected = block-mask f a; left = 50; toggle = false }))) (c .start-of-at .ensures) in
-    (subst (Knows (s .guards)) (sym (ap (λ (x : Flash). x .setup) e)) (s .knows),
-     (begin-tied f (s .standing) (all-sound (s .chip)) (s .follows) (c .args .block) (c .pre) (view (c .erase .last .chip)) e, tt))
+    let e = c .erase .ensures ∙ ap (λ (a : ℕ). with-state f (Erasing (record { phase = Window; selected = block-mask f a; left = 50; toggle = false }))) (c .start-of-at .ensures) in (
+      subst (Knows (s .guards)) (sym (ap (λ (x : Flash). x .setup) e)) (s .knows),
+      (begin-tied f (s .standing) (all-sound (s .chip)) (s .follows) (c .args .block) (c .pre) (view (c .erase .last .chip)) e, tt),
+    )
 
 pub returns : need.returns
 returns c =
