@@ -5,6 +5,7 @@ ghost use Prim.Native.Nat.{_*_, _≤_};
 ghost use lib.ListN.{length};
 ghost use Rattle.std.specs.Of.Vec.{vec-items, vec-len};
 ghost use Rattle.part.specs.declared.answers.Standing.the-variants.{Idle};
+ghost use Rattle.part.specs.Laws.{Part-laws};
 ghost use Rattle.array.specs.Limits.{fit, checked};
 ghost use Rattle.array.specs.Means.{equal-blocks, means, made};
 use crate::array::Array;
@@ -53,7 +54,8 @@ impl Array {
 
     // An array on this memory; a dead one, with no blocks, where `check` refuses it.
     pub fn new(count: u32, width: u32, memory: Vec<u8>) -> Array
-        ensures { λ r. ⌜ means r ≡ made count width (vec-items memory) ⌝ }
+        ensures part { λ r. ⌜ means r ≡ made count width (vec-items memory) ⌝ }
+        ensures laws { λ _. ⌜ Part-laws ⌝ }
     {
         let mut cells = memory;
         if fits(count, width, cells.len()) {

@@ -1,3 +1,4 @@
 pub mod Calls
 pub mod Faults
+pub mod Laws
 pub mod Meaning

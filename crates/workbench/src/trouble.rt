@@ -1,6 +1,7 @@
 ghost use mathlib.Core.Path.{_≡_};
-ghost use Rattle.workbench.specs.declared.trouble.Trouble.the-variants.{Chip, Memory, Output};
+ghost use Rattle.workbench.specs.declared.trouble.Trouble.the-variants.{Chip, Part, Memory, Output};
 use chip::ChipFault;
+use part::PartFault;
 use std::alloc::AllocError;
 use std::io;
 
@@ -9,6 +10,8 @@ use std::io;
 pub enum Trouble {
     // The chip refused a call.
     Chip(ChipFault),
+    // A part refused a call.
+    Part(PartFault),
     // There was no memory for a chip's cells.
     Memory,
     // The output could not be written.
@@ -22,6 +25,14 @@ pub impl From<ChipFault> for Trouble as TroubleFromChip {
 
     fn from(fault: ChipFault) -> Trouble {
         Trouble::Chip(fault)
+    }
+}
+
+pub impl From<PartFault> for Trouble as TroubleFromPart {
+    ghost converts = { λ f r. r ≡ Part f };
+
+    fn from(fault: PartFault) -> Trouble {
+        Trouble::Part(fault)
     }
 }
 
