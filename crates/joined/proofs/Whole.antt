@@ -19,7 +19,7 @@ use Rattle.part.specs.declared.answers.Progress.{Progress}
 use Rattle.part.specs.declared.answers.Shape.{Shape}
 use Rattle.part.specs.Meaning.{Meaning, Lawful, size, count, cell, guarded, shape-of}
 use Rattle.part.specs.Calls.{answer, stands, peek-no, burn-no, begin-no, pass-no, Burnt-by, Burnt, Begun-by, Begun, progress, after-pass, block-at}
-use Rattle.joined.specs.Pile.{pile, fits, joined, elapsed, stood, ran, later, Later-room, placed}
+use Rattle.joined.specs.Pile.{pile, fits, Asked, joined, elapsed, stood, ran, later, Later-room, placed}
 use Rattle.joined.proofs.Refusing.{One, runs, stood-is, ran-is, guarded-left, guarded-right, cell-left, cell-right, peek-left, peek-right, burn-left, burn-right, begin-left, begin-right}
 use Rattle.joined.proofs.Asking.{block-left, block-right, later-room}
 use Rattle.joined.proofs.Living.{on, one, same-second, burnt-first, burnt-second, begun-first, begun-second}
@@ -33,9 +33,8 @@ pub record Seen (l : Bool) (m n : Meaning) (s t : Shape) : Type 0 where
   pub first : s ≡ shape-of m
   pub second : t ≡ shape-of n
 
-pub seen : (l : Bool) (m n : Meaning) (s t : Shape) (r : Bool) → Lawful m → Lawful n → r ≡ (l && fits m n) → r ≡ true → s ≡ shape-of m → t ≡ shape-of n
-    → Seen l m n s t
-seen l m n s t r lm ln e y f g = record { first-lawful = lm; second-lawful = ln; alive = sym e ∙ y; first = f; second = g }
+pub seen : (l : Bool) (m n : Meaning) (s t : Shape) → Lawful m → Lawful n → Asked l m n (Some (s, t)) → Seen l m n s t
+seen l m n s t lm ln a = record { first-lawful = lm; second-lawful = ln; alive = a .0; first = a .1; second = a .2 }
 
 -- the refusal because of an erasure
 abbrev in-the-way : {X : Type 0} → ℕ → Result X PartFault

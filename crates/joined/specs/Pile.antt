@@ -1,5 +1,6 @@
 -- Two parts end to end.
 use Prim.Native.Nat.{ℕ, _+_, _-_, _%_, _<_}
+use mathlib.Core.Path.{_≡_}
 use mathlib.Core.Bool.{Bool, true, false, cond, not, _&&_}
 use mathlib.Core.List.{[], _++_}
 use lib.Dec.{leb}
@@ -9,9 +10,10 @@ use Rattle.std.specs.declared.result.Result.{Result}
 use Rattle.std.specs.declared.result.Result.the-variants.{Ok, Err}
 use Rattle.geometry.specs.declared.tables.Block.{Block}
 use Rattle.part.specs.declared.fault.PartFault.{PartFault}
+use Rattle.part.specs.declared.answers.Shape.{Shape}
 use Rattle.part.specs.declared.answers.Standing.{Standing}
 use Rattle.part.specs.declared.answers.Standing.the-variants.{Idle, Running, Suspended}
-use Rattle.part.specs.Meaning.{Erasure, Meaning, size, count}
+use Rattle.part.specs.Meaning.{Erasure, Meaning, size, count, shape-of}
 use Rattle.part.specs.Calls.{stands}
 
 -- the same erasure, its block k numbers higher
@@ -98,3 +100,8 @@ Later-room (Some b) k = k + b .start < 4294967296
 abbrev pub placed : {X : Type 0} → Result X PartFault → ℕ → Result X PartFault
 placed (Ok x) place = Ok x
 placed (Err f) place = Err (record { cause = f .cause; place = place })
+
+-- what is known of the two sides once they were asked: their shapes, where the joined part is not dead
+abbrev pub Asked : Bool → Meaning → Meaning → Option (Shape × Shape) → Type 0
+Asked live m n None = (live && fits m n) ≡ false
+Asked live m n (Some p) = ((live && fits m n) ≡ true) × (p .0 ≡ shape-of m) × (p .1 ≡ shape-of n)

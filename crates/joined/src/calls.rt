@@ -39,10 +39,9 @@ pub impl<P: Part + Drop, Q: Part + Drop> Part for Joined<P, Q> as JoinedPart {
     }
 
     fn block(&self, number: u32) -> Option<Block> {
-        if !self.alive() {
+        let Some((first, _second)) = self.sides() else {
             return None;
-        }
-        let first = self.first.shape();
+        };
         if number < first.blocks {
             self.first.block(number)
         } else {
@@ -51,14 +50,13 @@ pub impl<P: Part + Drop, Q: Part + Drop> Part for Joined<P, Q> as JoinedPart {
     }
 
     fn guarded(&self, block: u32) -> bool {
-        if !self.alive() {
+        let Some((first, _second)) = self.sides() else {
             return false;
-        }
-        let blocks = self.first.shape().blocks;
-        if block < blocks {
+        };
+        if block < first.blocks {
             self.first.guarded(block)
         } else {
-            self.second.guarded(block - blocks)
+            self.second.guarded(block - first.blocks)
         }
     }
 
@@ -68,14 +66,12 @@ pub impl<P: Part + Drop, Q: Part + Drop> Part for Joined<P, Q> as JoinedPart {
 
     // A running erasure hides the cells of the other side too.
     fn peek(&mut self, address: u32) -> Result<u8, PartFault> {
-        if !self.alive() {
+        let Some((first, second)) = self.sides() else {
             return Err(PartFault {
                 cause: Cause::AddressOutside,
                 place: address,
             });
-        }
-        let first = self.first.shape();
-        let second = self.second.shape();
+        };
         let in_the_way = PartFault {
             cause: Cause::ErasureInTheWay,
             place: address,
@@ -94,14 +90,12 @@ pub impl<P: Part + Drop, Q: Part + Drop> Part for Joined<P, Q> as JoinedPart {
     }
 
     fn burn(&mut self, address: u32, byte: u8) -> Result<(), PartFault> {
-        if !self.alive() {
+        let Some((first, second)) = self.sides() else {
             return Err(PartFault {
                 cause: Cause::AddressOutside,
                 place: address,
             });
-        }
-        let first = self.first.shape();
-        let second = self.second.shape();
+        };
         let in_the_way = PartFault {
             cause: Cause::ErasureInTheWay,
             place: address,
@@ -123,14 +117,12 @@ pub impl<P: Part + Drop, Q: Part + Drop> Part for Joined<P, Q> as JoinedPart {
     }
 
     fn begin(&mut self, block: u32) -> Result<(), PartFault> {
-        if !self.alive() {
+        let Some((first, second)) = self.sides() else {
             return Err(PartFault {
                 cause: Cause::NoSuchBlock,
                 place: block,
             });
-        }
-        let first = self.first.shape();
-        let second = self.second.shape();
+        };
         let in_the_way = PartFault {
             cause: Cause::ErasureInTheWay,
             place: block,
@@ -171,12 +163,12 @@ pub impl<P: Part + Drop, Q: Part + Drop> Part for Joined<P, Q> as JoinedPart {
     }
 
     fn pass(&mut self, n: u32) -> Result<Progress, PartFault> {
-        if !self.alive() {
+        let Some((first, _second)) = self.sides() else {
             return self.pass_dead(n);
-        }
-        let busy = stands(self.first.shape().standing);
-        let first = self.first.pass(n);
-        let second = self.second.pass(n);
-        if busy { first } else { second }
+        };
+        let busy = stands(first.standing);
+        let before = self.first.pass(n);
+        let behind = self.second.pass(n);
+        if busy { before } else { behind }
     }
 }

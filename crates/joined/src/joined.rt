@@ -2,12 +2,13 @@ ghost use mathlib.Core.Path.{_≡_};
 ghost use mathlib.Core.Bool.{false, _&&_};
 ghost use Rattle.part.specs.Calls.{answer, pass-no, after-pass};
 ghost use Rattle.part.specs.declared.answers.Progress.the-variants.{Idle};
-ghost use Rattle.joined.specs.Pile.{fits, joined as meaning, made};
+ghost use Rattle.joined.specs.Pile.{Asked, fits, joined as meaning, made};
 use crate::sides::fit;
 use crate::sides::stands;
 use part::Part;
 use part::PartFault;
 use part::Progress;
+use part::Shape;
 
 // Two parts end to end. One that is not live is dead: it has no blocks, but time still passes on both sides.
 #[derive(Drop)]
@@ -31,11 +32,24 @@ impl<P: Part + Drop, Q: Part + Drop> Joined<P, Q> {
         }
     }
 
-    // Whether it is not dead. Each side is asked once, since a side may be a pile itself.
+    // Whether it is not dead.
     pub(crate) fn alive(&self) -> bool
         ensures { λ r. ⌜ r ≡ (now (self .entry) .live && fits (P·Part .means (now (self .entry) .first)) (Q·Part .means (now (self .entry) .second))) ⌝ }
     {
         self.live & fit(self.first.shape(), self.second.shape())
+    }
+
+    // The shapes of the two sides, or none where the joined part is dead. Each side is asked once, since a side may be a pile itself.
+    pub(crate) fn sides(&self) -> Option<(Shape, Shape)>
+        ensures { λ r. ⌜ Asked (now (self .entry) .live) (P·Part .means (now (self .entry) .first)) (Q·Part .means (now (self .entry) .second)) r ⌝ }
+    {
+        let first = self.first.shape();
+        let second = self.second.shape();
+        if self.live & fit(first, second) {
+            Some((first, second))
+        } else {
+            None
+        }
     }
 
     // Time passes on both sides of a dead part too, and it stays dead whatever becomes of their erasures.

@@ -6,12 +6,10 @@ returns-then-stands g c =
     let s = c .args .self .now in
     let m = g .P·Part .means (s .first) in
     let n = g .Q·Part .means (s .second) in
-    let v =
-    seen (s .live) m n (c .shape-first .result) (c .shape-second .result) (c .alive .result) (g .P·Part·met .lawful (s .first)) (g .Q·Part·met .lawful (s .second))
-    (c .alive .ensures) (c .if-not-alive .left) (c .shape-first .ensures) (c .shape-second .ensures) in
+    let v = seen (s .live) m n (c .in-Some .first) (c .in-Some .second) (g .P·Part·met .lawful (s .first)) (g .Q·Part·met .lawful (s .second)) (c .in-Some .ensures tt) in
     record {
-      answer = burn-first-way (s .live) m n (c .shape-first .result) (c .shape-second .result) v (c .args .address) (c .if-address-first .taken) (c .args .byte) (c .stands .result) (c .stands .ensures) (c .if-stands .taken);
-      burnt = burns-first-way (s .live) m n (c .shape-first .result) (c .shape-second .result) v (c .args .address) (c .if-address-first .taken) (c .args .byte) (c .stands .result) (c .stands .ensures) (c .if-stands .taken);
+      answer = burn-first-way (s .live) m n (c .in-Some .first) (c .in-Some .second) v (c .args .address) (c .if-address-first .taken) (c .args .byte) (c .stands .result) (c .stands .ensures) (c .if-stands .taken);
+      burnt = burns-first-way (s .live) m n (c .in-Some .first) (c .in-Some .second) v (c .args .address) (c .if-address-first .taken) (c .args .byte) (c .stands .result) (c .stands .ensures) (c .if-stands .taken);
     }
 
 pub returns-then-address-first : need.returns-then-address-first
@@ -19,13 +17,11 @@ returns-then-address-first g c =
     let s = c .args .self .now in
     let m = g .P·Part .means (s .first) in
     let n = g .Q·Part .means (s .second) in
-    let v =
-    seen (s .live) m n (c .shape-first .result) (c .shape-second .result) (c .alive .result) (g .P·Part·met .lawful (s .first)) (g .Q·Part·met .lawful (s .second))
-    (c .alive .ensures) (c .if-not-alive .left) (c .shape-first .ensures) (c .shape-second .ensures) in
+    let v = seen (s .live) m n (c .in-Some .first) (c .in-Some .second) (g .P·Part·met .lawful (s .first)) (g .Q·Part·met .lawful (s .second)) (c .in-Some .ensures tt) in
     record {
-      answer = burn-first (s .live) m n (c .shape-first .result) (c .shape-second .result) v (c .args .address) (c .if-address-first .taken) (c .args .byte) (c .stands .result) (c .stands .ensures) (c .burn .result) (c .if-stands .left) (c .burn .ensures .answer);
+      answer = burn-first (s .live) m n (c .in-Some .first) (c .in-Some .second) v (c .args .address) (c .if-address-first .taken) (c .args .byte) (c .stands .result) (c .stands .ensures) (c .burn .result) (c .if-stands .left) (c .burn .ensures .answer);
       burnt =
-          burns-first (s .live) m n (c .shape-first .result) (c .shape-second .result) v (c .args .address) (c .if-address-first .taken) (c .args .byte) (c .stands .result) (c .stands .ensures) (g .P·Part .means (c .burn .last .busy))
+          burns-first (s .live) m n (c .in-Some .first) (c .in-Some .second) v (c .args .address) (c .if-address-first .taken) (c .args .byte) (c .stands .result) (c .stands .ensures) (g .P·Part .means (c .burn .last .busy))
           (g .Q·Part .means (c .burn .last .idle)) (c .if-stands .left) (c .burn .ensures .burnt) (c .burn .ensures .beside);
     }
 
@@ -34,12 +30,10 @@ returns-then-inner-second g c =
     let s = c .args .self .now in
     let m = g .P·Part .means (s .first) in
     let n = g .Q·Part .means (s .second) in
-    let v =
-    seen (s .live) m n (c .shape-first .result) (c .shape-second .result) (c .alive .result) (g .P·Part·met .lawful (s .first)) (g .Q·Part·met .lawful (s .second))
-    (c .alive .ensures) (c .if-not-alive .left) (c .shape-first .ensures) (c .shape-second .ensures) in
+    let v = seen (s .live) m n (c .in-Some .first) (c .in-Some .second) (g .P·Part·met .lawful (s .first)) (g .Q·Part·met .lawful (s .second)) (c .in-Some .ensures tt) in
     record {
-      answer = burn-second-way (s .live) m n (c .shape-first .result) (c .shape-second .result) v (c .args .address) (c .if-address-first .left) (c .args .byte) (c .stands-2 .result) (c .stands-2 .ensures) (c .if-inner-second .taken);
-      burnt = burns-second-way (s .live) m n (c .shape-first .result) (c .shape-second .result) v (c .args .address) (c .if-address-first .left) (c .args .byte) (c .stands-2 .result) (c .stands-2 .ensures) (c .if-inner-second .taken);
+      answer = burn-second-way (s .live) m n (c .in-Some .first) (c .in-Some .second) v (c .args .address) (c .if-address-first .left) (c .args .byte) (c .stands-2 .result) (c .stands-2 .ensures) (c .if-inner-second .taken);
+      burnt = burns-second-way (s .live) m n (c .in-Some .first) (c .in-Some .second) v (c .args .address) (c .if-address-first .left) (c .args .byte) (c .stands-2 .result) (c .stands-2 .ensures) (c .if-inner-second .taken);
     }
 
 pub returns : need.returns
@@ -47,14 +41,12 @@ returns g c =
     let s = c .args .self .now in
     let m = g .P·Part .means (s .first) in
     let n = g .Q·Part .means (s .second) in
-    let v =
-    seen (s .live) m n (c .shape-first .result) (c .shape-second .result) (c .alive .result) (g .P·Part·met .lawful (s .first)) (g .Q·Part·met .lawful (s .second))
-    (c .alive .ensures) (c .if-not-alive .left) (c .shape-first .ensures) (c .shape-second .ensures) in
+    let v = seen (s .live) m n (c .in-Some .first) (c .in-Some .second) (g .P·Part·met .lawful (s .first)) (g .Q·Part·met .lawful (s .second)) (c .in-Some .ensures tt) in
     record {
       answer =
-          burn-second (s .live) m n (c .shape-first .result) (c .shape-second .result) v (c .args .address) (c .if-address-first .left) (c .args .byte) (c .stands-2 .result) (c .stands-2 .ensures) (c .burn-2 .result) (c .placed .result)
+          burn-second (s .live) m n (c .in-Some .first) (c .in-Some .second) v (c .args .address) (c .if-address-first .left) (c .args .byte) (c .stands-2 .result) (c .stands-2 .ensures) (c .burn-2 .result) (c .placed .result)
           (c .if-inner-second .left) (c .burn-2 .ensures .answer) (c .placed .ensures);
       burnt =
-          burns-second (s .live) m n (c .shape-first .result) (c .shape-second .result) v (c .args .address) (c .if-address-first .left) (c .args .byte) (c .stands-2 .result) (c .stands-2 .ensures) (g .P·Part .means (c .burn-2 .last .idle))
+          burns-second (s .live) m n (c .in-Some .first) (c .in-Some .second) v (c .args .address) (c .if-address-first .left) (c .args .byte) (c .stands-2 .result) (c .stands-2 .ensures) (g .P·Part .means (c .burn-2 .last .idle))
           (g .Q·Part .means (c .burn-2 .last .busy)) (c .if-inner-second .left) (c .burn-2 .ensures .burnt) (c .burn-2 .ensures .beside);
     }

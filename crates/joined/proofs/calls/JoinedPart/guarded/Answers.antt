@@ -1,25 +1,19 @@
-use mathlib.Core.Path.{refl}
-use Rattle.part.specs.Meaning.{shape-of}
 use Rattle.joined.proofs.Whole.{seen, guarded-first, guarded-second}
 use Rattle.joined.proofs.calls.JoinedPart.guarded.Needs as need
 
-pub returns-then-block-blocks : need.returns-then-block-blocks
-returns-then-block-blocks g c =
+pub returns-then-block-first : need.returns-then-block-first
+returns-then-block-first g c =
     let s = c .args .self .now in
     let m = g .P·Part .means (s .first) in
     let n = g .Q·Part .means (s .second) in
-    let v =
-    seen (s .live) m n (c .shape-blocks .result) (shape-of n) (c .alive .result) (g .P·Part·met .lawful (s .first)) (g .Q·Part·met .lawful (s .second))
-    (c .alive .ensures) (c .if-not-alive .left) (c .shape-blocks .ensures) refl in
-    guarded-first (s .live) m n (c .shape-blocks .result) (shape-of n) v (c .args .block) (c .guarded .result) (c .if-block-blocks .taken) (c .guarded .ensures)
+    let v = seen (s .live) m n (c .in-Some .first) (c .in-Some .-second) (g .P·Part·met .lawful (s .first)) (g .Q·Part·met .lawful (s .second)) (c .in-Some .ensures tt) in
+    guarded-first (s .live) m n (c .in-Some .first) (c .in-Some .-second) v (c .args .block) (c .guarded .result) (c .if-block-first .taken) (c .guarded .ensures)
 
-pub returns-else-block-blocks : need.returns-else-block-blocks
-returns-else-block-blocks g c =
+pub returns-else-block-first : need.returns-else-block-first
+returns-else-block-first g c =
     let s = c .args .self .now in
     let m = g .P·Part .means (s .first) in
     let n = g .Q·Part .means (s .second) in
-    let v =
-    seen (s .live) m n (c .shape-blocks .result) (shape-of n) (c .alive .result) (g .P·Part·met .lawful (s .first)) (g .Q·Part·met .lawful (s .second))
-    (c .alive .ensures) (c .if-not-alive .left) (c .shape-blocks .ensures) refl in
-    guarded-second (s .live) m n (c .shape-blocks .result) (shape-of n) v (c .args .block) (c .guarded-else-block-blocks .result) (c .if-block-blocks .left)
-    (c .guarded-else-block-blocks .ensures)
+    let v = seen (s .live) m n (c .in-Some .first) (c .in-Some .-second) (g .P·Part·met .lawful (s .first)) (g .Q·Part·met .lawful (s .second)) (c .in-Some .ensures tt) in
+    guarded-second (s .live) m n (c .in-Some .first) (c .in-Some .-second) v (c .args .block) (c .guarded-else-block-first .result) (c .if-block-first .left)
+    (c .guarded-else-block-first .ensures)

@@ -1,5 +1,3 @@
-use mathlib.Core.Path.{refl}
-use Rattle.part.specs.Meaning.{shape-of}
 use Rattle.joined.proofs.Whole.{seen, passes, pass-first, pass-second}
 use Rattle.joined.proofs.calls.JoinedPart.pass.Needs as need
 
@@ -8,16 +6,14 @@ returns-then-busy g c =
     let s = c .args .self .now in
     let m = g .P·Part .means (s .first) in
     let n = g .Q·Part .means (s .second) in
-    let v =
-    seen (s .live) m n (c .shape .result) (shape-of n) (c .alive .result) (g .P·Part·met .lawful (s .first)) (g .Q·Part·met .lawful (s .second))
-    (c .alive .ensures) (c .if-not-alive .left) (c .shape .ensures) refl in
+    let v = seen (s .live) m n (c .in-Some .first) (c .in-Some .-second) (g .P·Part·met .lawful (s .first)) (g .Q·Part·met .lawful (s .second)) (c .in-Some .ensures tt) in
     record {
       answer =
-          pass-first (s .live) m n (c .shape .result) (shape-of n) v (c .args .n) (c .stands-busy .result) (c .pass-first .result) (c .stands-busy .ensures) (c .if-busy .taken)
-          (c .pass-first .ensures .answer);
+          pass-first (s .live) m n (c .in-Some .first) (c .in-Some .-second) v (c .args .n) (c .stands-busy .result) (c .pass-before .result) (c .stands-busy .ensures) (c .if-busy .taken)
+          (c .pass-before .ensures .answer);
       passed =
-          passes (s .live) m n (c .shape .result) (shape-of n) v (c .args .n) (g .P·Part .means (c .pass-first .last .self)) (g .Q·Part .means (c .pass-second .last .self))
-          (c .pass-first .ensures .passed) (c .pass-second .ensures .passed);
+          passes (s .live) m n (c .in-Some .first) (c .in-Some .-second) v (c .args .n) (g .P·Part .means (c .pass-before .last .self)) (g .Q·Part .means (c .pass-behind .last .self))
+          (c .pass-before .ensures .passed) (c .pass-behind .ensures .passed);
     }
 
 pub returns-else-busy : need.returns-else-busy
@@ -25,14 +21,12 @@ returns-else-busy g c =
     let s = c .args .self .now in
     let m = g .P·Part .means (s .first) in
     let n = g .Q·Part .means (s .second) in
-    let v =
-    seen (s .live) m n (c .shape .result) (shape-of n) (c .alive .result) (g .P·Part·met .lawful (s .first)) (g .Q·Part·met .lawful (s .second))
-    (c .alive .ensures) (c .if-not-alive .left) (c .shape .ensures) refl in
+    let v = seen (s .live) m n (c .in-Some .first) (c .in-Some .-second) (g .P·Part·met .lawful (s .first)) (g .Q·Part·met .lawful (s .second)) (c .in-Some .ensures tt) in
     record {
       answer =
-          pass-second (s .live) m n (c .shape .result) (shape-of n) v (c .args .n) (c .stands-busy .result) (c .pass-second .result) (c .stands-busy .ensures) (c .if-busy .left)
-          (c .pass-second .ensures .answer);
+          pass-second (s .live) m n (c .in-Some .first) (c .in-Some .-second) v (c .args .n) (c .stands-busy .result) (c .pass-behind .result) (c .stands-busy .ensures) (c .if-busy .left)
+          (c .pass-behind .ensures .answer);
       passed =
-          passes (s .live) m n (c .shape .result) (shape-of n) v (c .args .n) (g .P·Part .means (c .pass-first .last .self)) (g .Q·Part .means (c .pass-second .last .self))
-          (c .pass-first .ensures .passed) (c .pass-second .ensures .passed);
+          passes (s .live) m n (c .in-Some .first) (c .in-Some .-second) v (c .args .n) (g .P·Part .means (c .pass-before .last .self)) (g .Q·Part .means (c .pass-behind .last .self))
+          (c .pass-before .ensures .passed) (c .pass-behind .ensures .passed);
     }

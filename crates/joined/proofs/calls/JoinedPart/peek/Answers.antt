@@ -9,11 +9,9 @@ returns-then-runs g c =
     let s = c .args .self .now in
     let m = g .P·Part .means (s .first) in
     let n = g .Q·Part .means (s .second) in
-    let v =
-    seen (s .live) m n (c .shape-first .result) (c .shape-second .result) (c .alive .result) (g .P·Part·met .lawful (s .first)) (g .Q·Part·met .lawful (s .second))
-    (c .alive .ensures) (c .if-not-alive .left) (c .shape-first .ensures) (c .shape-second .ensures) in
+    let v = seen (s .live) m n (c .in-Some .first) (c .in-Some .second) (g .P·Part·met .lawful (s .first)) (g .Q·Part·met .lawful (s .second)) (c .in-Some .ensures tt) in
     record {
-      answer = peek-first-way (s .live) m n (c .shape-first .result) (c .shape-second .result) v (c .args .address) (c .if-address-first .taken) (c .runs .result) (c .runs .ensures) (c .if-runs .taken);
+      answer = peek-first-way (s .live) m n (c .in-Some .first) (c .in-Some .second) v (c .args .address) (c .if-address-first .taken) (c .runs .result) (c .runs .ensures) (c .if-runs .taken);
       same = refl {a = joined (s .live) m n};
     }
 
@@ -22,12 +20,10 @@ returns-then-address-first g c =
     let s = c .args .self .now in
     let m = g .P·Part .means (s .first) in
     let n = g .Q·Part .means (s .second) in
-    let v =
-    seen (s .live) m n (c .shape-first .result) (c .shape-second .result) (c .alive .result) (g .P·Part·met .lawful (s .first)) (g .Q·Part·met .lawful (s .second))
-    (c .alive .ensures) (c .if-not-alive .left) (c .shape-first .ensures) (c .shape-second .ensures) in
+    let v = seen (s .live) m n (c .in-Some .first) (c .in-Some .second) (g .P·Part·met .lawful (s .first)) (g .Q·Part·met .lawful (s .second)) (c .in-Some .ensures tt) in
     record {
       answer =
-          peek-first (s .live) m n (c .shape-first .result) (c .shape-second .result) v (c .args .address) (c .if-address-first .taken) (c .runs .result) (c .peek .result) (c .runs .ensures) (c .if-runs .left)
+          peek-first (s .live) m n (c .in-Some .first) (c .in-Some .second) v (c .args .address) (c .if-address-first .taken) (c .runs .result) (c .peek .result) (c .runs .ensures) (c .if-runs .left)
           (c .peek .ensures .answer);
       same = ap (λ (x : Meaning). joined (s .live) x n) (c .peek .ensures .same);
     }
@@ -37,11 +33,9 @@ returns-then-inner-second g c =
     let s = c .args .self .now in
     let m = g .P·Part .means (s .first) in
     let n = g .Q·Part .means (s .second) in
-    let v =
-    seen (s .live) m n (c .shape-first .result) (c .shape-second .result) (c .alive .result) (g .P·Part·met .lawful (s .first)) (g .Q·Part·met .lawful (s .second))
-    (c .alive .ensures) (c .if-not-alive .left) (c .shape-first .ensures) (c .shape-second .ensures) in
+    let v = seen (s .live) m n (c .in-Some .first) (c .in-Some .second) (g .P·Part·met .lawful (s .first)) (g .Q·Part·met .lawful (s .second)) (c .in-Some .ensures tt) in
     record {
-      answer = peek-second-way (s .live) m n (c .shape-first .result) (c .shape-second .result) v (c .args .address) (c .if-address-first .left) (c .runs-2 .result) (c .runs-2 .ensures) (c .if-inner-second .taken);
+      answer = peek-second-way (s .live) m n (c .in-Some .first) (c .in-Some .second) v (c .args .address) (c .if-address-first .left) (c .runs-2 .result) (c .runs-2 .ensures) (c .if-inner-second .taken);
       same = refl {a = joined (s .live) m n};
     }
 
@@ -50,12 +44,10 @@ returns g c =
     let s = c .args .self .now in
     let m = g .P·Part .means (s .first) in
     let n = g .Q·Part .means (s .second) in
-    let v =
-    seen (s .live) m n (c .shape-first .result) (c .shape-second .result) (c .alive .result) (g .P·Part·met .lawful (s .first)) (g .Q·Part·met .lawful (s .second))
-    (c .alive .ensures) (c .if-not-alive .left) (c .shape-first .ensures) (c .shape-second .ensures) in
+    let v = seen (s .live) m n (c .in-Some .first) (c .in-Some .second) (g .P·Part·met .lawful (s .first)) (g .Q·Part·met .lawful (s .second)) (c .in-Some .ensures tt) in
     record {
       answer =
-          peek-second (s .live) m n (c .shape-first .result) (c .shape-second .result) v (c .args .address) (c .if-address-first .left) (c .runs-2 .result) (c .runs-2 .ensures) (c .peek-2 .result) (c .placed .result)
+          peek-second (s .live) m n (c .in-Some .first) (c .in-Some .second) v (c .args .address) (c .if-address-first .left) (c .runs-2 .result) (c .runs-2 .ensures) (c .peek-2 .result) (c .placed .result)
           (c .if-inner-second .left) (c .peek-2 .ensures .answer) (c .placed .ensures);
       same = ap (joined (s .live) m) (c .peek-2 .ensures .same);
     }
