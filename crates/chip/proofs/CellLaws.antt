@@ -4,31 +4,28 @@ use native.Mathlib.Nat.{zero-div}
 use mathlib.Core.Path.{_≡_, refl, sym, ap, subst, _∙_}
 use mathlib.Core.Bool.{Bool, true, false, cond, not, _&&_, _||_}
 use mathlib.Core.List.{List}
-use mathlib.Core.Logic.{_⊎_, inl, inr}
+use mathlib.Core.Logic.{inl, inr}
 use native.Mathlib.Omega.{arith}
-use native.Mathlib.Numerals.{add-one}
 use lib.Bits.{bitAnd, bitXor}
 use lib.Dec.{eqb, leb, ltb}
-use lib.ListN.{length, getD, set}
+use lib.ListN.{length, getD}
 use Rattle.std.proofs.shelf.Lists.{length-set, getD-set-same, getD-set-other, set-past}
-use Rattle.std.proofs.shelf.Tests.{ltb-true, leb-false, lt-ltb, cases-eq, cases-lt, cases-bool, and-parts, and-left, and-right, or-cases, or-parts, cond-both, both-ways, not-from-true}
+use Rattle.std.proofs.shelf.Tests.{ltb-true, leb-false, cases-eq, cases-lt, and-parts, and-left, and-right, or-cases, or-parts, cond-both, both-ways, not-from-true}
 use Rattle.std.specs.declared.option.Option.{Option}
 use Rattle.std.specs.declared.option.Option.the-variants.{Some, None}
 use Rattle.geometry.specs.Blocks.{bit, block-of, filled}
-use Rattle.geometry.specs.Plans.{plan-of}
 use Rattle.geometry.proofs.Bitwise.{bit-and, bit-not}
 use Rattle.geometry.proofs.Filling.{filled-at, length-filled}
 use Rattle.geometry.proofs.Placing.{every-block, every-few}
-use Rattle.chip.specs.declared.setup.Setup.{Setup}
 use Rattle.chip.specs.declared.state.Phase.{Phase}
 use Rattle.chip.specs.declared.state.Phase.the-variants.{Window, Erasing as Begun}
 use Rattle.chip.specs.declared.state.Program.{Program}
 use Rattle.chip.specs.declared.state.Erase.{Erase}
 use Rattle.chip.specs.declared.state.State.{State}
 use Rattle.chip.specs.declared.state.State.the-variants.{Ready, Programming, Erasing, Suspending, Suspended, Failed}
-use Rattle.chip.specs.Flash.{Flash, with-state, with-cells, blocks, size, inside, cell, protected, worn, without, erasable}
-use Rattle.chip.specs.Writes.{read-mode, needs-erase}
-use Rattle.chip.specs.Times.{burnt, programmed, spoils, erased, ended, due, lowered, step-by, step, steps, tick, passed}
+use Rattle.chip.specs.Flash.{Flash, blocks, inside, cell, protected, worn, without, erasable}
+use Rattle.chip.specs.Writes.{needs-erase}
+use Rattle.chip.specs.Times.{burnt, programmed, spoils, erased, ended, due, lowered, step-by, step, tick, passed}
 use Rattle.chip.specs.Resets.{broken-erase, broken, after-reset}
 use Rattle.chip.specs.Laws.{Sound, Keeps-blocks, Only-clears, in-erase}
 

@@ -1,7 +1,7 @@
 -- What the limits of a chip's numbers say, fact by fact.
 use Prim.Native.Nat.{_≤_}
 use mathlib.Core.Path.{_≡_}
-use mathlib.Core.Bool.{true, _&&_}
+use mathlib.Core.Bool.{true}
 use lib.Dec.{leb}
 use Rattle.std.proofs.shelf.Tests.{and-parts, leb-true}
 use Rattle.chip.specs.declared.setup.Setup.{Setup}

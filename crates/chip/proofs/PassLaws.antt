@@ -1,25 +1,23 @@
 -- The laws of time and of the reset pin.
-use Prim.Native.Nat.{ℕ, zero, suc, _+_, _%_}
+use Prim.Native.Nat.{ℕ, zero, suc, _+_}
 use mathlib.Core.Path.{_≡_, refl, sym, ap, subst, _∙_}
-use mathlib.Core.Bool.{Bool, true, false, cond}
-use mathlib.Core.Logic.{_⊎_, inl, inr}
+use mathlib.Core.Bool.{true, false}
 use native.Mathlib.Omega.{arith}
 use lib.Dec.{leb}
 use Rattle.std.proofs.shelf.Tests.{cond-both, both-ways}
 use Rattle.std.specs.declared.option.Option.{Option}
-use Rattle.std.specs.declared.option.Option.the-variants.{Some, None}
-use Rattle.chip.specs.declared.chip.Chip.{Chip}
+use Rattle.std.specs.declared.option.Option.the-variants.{None}
 use Rattle.chip.specs.declared.state.Phase.{Phase}
 use Rattle.chip.specs.declared.state.Phase.the-variants.{Window, Erasing as Begun}
 use Rattle.chip.specs.declared.state.Program.{Program}
 use Rattle.chip.specs.declared.state.Erase.{Erase}
 use Rattle.chip.specs.declared.state.State.{State}
 use Rattle.chip.specs.declared.state.State.the-variants.{Ready, Programming, Erasing, Suspending, Suspended, Failed}
-use Rattle.chip.specs.Flash.{Flash, view, cell, protected, worn}
+use Rattle.chip.specs.Flash.{Flash, cell, protected, worn}
 use Rattle.chip.specs.Writes.{read-mode, needs-erase}
-use Rattle.chip.specs.Times.{programmed, spoils, erased, ended, due, lowered, step-by, step, tick, with-clock, passed}
+use Rattle.chip.specs.Times.{programmed, spoils, erased, ended, due, lowered, step-by, tick, with-clock, passed}
 use Rattle.chip.specs.Resets.{after-reset}
-use Rattle.chip.specs.Laws.{Sound, busy, has-failed, Pass-laws, Reset-laws, All-sound}
+use Rattle.chip.specs.Laws.{busy, has-failed, Pass-laws, Reset-laws, All-sound}
 use Rattle.chip.proofs.Passing.{passed-is, passed-steps, still}
 use Rattle.chip.proofs.CellLaws.{passed-keeps, passed-clears, reset-keeps, reset-clears}
 

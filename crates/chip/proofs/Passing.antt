@@ -10,7 +10,6 @@ use Rattle.std.specs.declared.option.Option.{Option}
 use Rattle.std.specs.declared.option.Option.the-variants.{Some, None}
 use Rattle.chip.specs.declared.state.Phase.{Phase}
 use Rattle.chip.specs.declared.state.Phase.the-variants.{Window, Erasing as Begun}
-use Rattle.chip.specs.declared.state.Erase.{Erase}
 use Rattle.chip.specs.declared.state.State.{State}
 use Rattle.chip.specs.declared.state.State.the-variants.{Ready, Programming, Erasing, Suspending, Suspended, Failed}
 use Rattle.geometry.specs.Blocks.{filled}

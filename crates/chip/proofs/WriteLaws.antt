@@ -1,15 +1,13 @@
 -- The laws of the write and the read cycle.
-use Prim.Native.Nat.{ℕ, _+_, _-_, _%_, _<_, _≤_}
+use Prim.Native.Nat.{ℕ, _-_, _%_}
 use mathlib.Core.Path.{_≡_, refl, sym, ap, subst, _∙_}
 use mathlib.Core.Bool.{Bool, true, false, cond, _&&_}
-use mathlib.Core.List.{List}
-use mathlib.Core.Logic.{_⊎_, inl, inr}
-use native.Mathlib.Omega.{arith}
+use mathlib.Core.Logic.{inl, inr}
 use lib.Bits.{bitOr}
 use lib.Dec.{eqb}
-use Rattle.std.proofs.shelf.Tests.{ne-eqb, eq-eqb, eqb-true, and-parts, cases-bool}
+use Rattle.std.proofs.shelf.Tests.{ne-eqb, eqb-true, and-parts, cases-bool}
 use Rattle.chip.specs.declared.state.Mode.{Mode}
-use Rattle.chip.specs.declared.state.Mode.the-variants.{Read, Id}
+use Rattle.chip.specs.declared.state.Mode.the-variants.{Read}
 use Rattle.chip.specs.declared.state.Place.{Place}
 use Rattle.chip.specs.declared.state.Place.the-variants.{Start, Second, Command, Data, EraseStart, EraseSecond, EraseBlock}
 use Rattle.chip.specs.declared.state.Decision.the-variants.{Enter, GiveUp}
@@ -17,13 +15,13 @@ use Rattle.chip.specs.declared.state.Phase.{Phase}
 use Rattle.chip.specs.declared.state.Phase.the-variants.{Window, Erasing as Begun}
 use Rattle.chip.specs.declared.state.Erase.{Erase}
 use Rattle.chip.specs.declared.state.State.{State}
-use Rattle.chip.specs.declared.state.State.the-variants.{Ready, Programming, Erasing, Suspending, Suspended, Failed}
+use Rattle.chip.specs.declared.state.State.the-variants.{Ready, Erasing, Failed}
 use Rattle.chip.specs.Commands.{decided}
 use Rattle.chip.specs.Flash.{Flash, with-state, inside}
-use Rattle.chip.specs.Writes.{read-mode, program-time, block-mask, obeyed, interrupted, heeded, written}
+use Rattle.chip.specs.Writes.{read-mode, block-mask, obeyed, interrupted, heeded, written}
 use Rattle.chip.specs.Reads.{flipped, seen}
 use Rattle.chip.specs.Times.{steps, passed, erase-time, with-clock}
-use Rattle.chip.specs.Laws.{Fits, first-write, second-write, to-read, to-identify, to-program, any-byte, to-erase, third-write, fourth-write, in-block, unlocked, First, Second-address, Write-laws, Read-laws}
+use Rattle.chip.specs.Laws.{Fits, first-write, second-write, to-identify, to-program, any-byte, to-erase, third-write, fourth-write, in-block, unlocked, First, Second-address, Write-laws, Read-laws}
 use Rattle.chip.proofs.Passing.{until, over, passed-steps}
 
 -- A write in range, by what the chip was doing.

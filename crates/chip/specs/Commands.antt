@@ -1,8 +1,7 @@
 -- The command sequences: what a write means at each place, by the low fifteen bits of its address and its byte.
 use Prim.Native.Nat.{ℕ}
-use mathlib.Core.Bool.{Bool, true, false, cond, _&&_}
+use mathlib.Core.Bool.{cond, _&&_}
 use lib.Dec.{eqb}
-use Rattle.chip.specs.declared.state.Mode.{Mode}
 use Rattle.chip.specs.declared.state.Mode.the-variants.{Read, Id}
 use Rattle.chip.specs.declared.state.Place.{Place}
 use Rattle.chip.specs.declared.state.Place.the-variants.{Start, Second, Command, Data, EraseStart, EraseSecond, EraseBlock}

@@ -1,10 +1,10 @@
 -- A chip as its bus sees it, and what its blocks are.
-use Prim.Native.Nat.{ℕ, _^_}
-use mathlib.Core.Bool.{Bool, true, false, cond, not, _&&_}
+use Prim.Native.Nat.{ℕ}
+use mathlib.Core.Bool.{Bool, not}
 use mathlib.Core.List.{List}
 use lib.Bits.{bitAnd, bitXor}
-use lib.Dec.{eqb, ltb}
-use lib.ListN.{getD, set}
+use lib.Dec.{ltb}
+use lib.ListN.{getD}
 use Rattle.std.specs.Of.Vec.{vec-items}
 use Rattle.geometry.specs.Blocks.{bit, block-of}
 use Rattle.geometry.specs.Plans.{plan-of}

@@ -1,14 +1,13 @@
 -- What holds of the chip whatever it is doing, in the words of the workshop. The calls' contracts name these laws; they
 -- speak of the definitions that the same contracts use.
-use Prim.Native.Nat.{ℕ, _+_, _%_, _<_, _≤_}
+use Prim.Native.Nat.{ℕ, _+_, _%_, _<_}
 use mathlib.Core.Path.{_≡_}
 use mathlib.Core.Bool.{Bool, true, false, _||_}
-use mathlib.Core.Logic.{_⊎_}
 use lib.ListN.{length}
 use Rattle.geometry.specs.Blocks.{bit}
 use Rattle.chip.specs.declared.chip.Chip.{Chip}
 use Rattle.chip.specs.declared.state.Mode.{Mode}
-use Rattle.chip.specs.declared.state.Mode.the-variants.{Read, Id}
+use Rattle.chip.specs.declared.state.Mode.the-variants.{Id}
 use Rattle.chip.specs.declared.state.Place.{Place}
 use Rattle.chip.specs.declared.state.Place.the-variants.{Start, Second, Command, Data, EraseStart, EraseSecond, EraseBlock}
 use Rattle.chip.specs.declared.state.Phase.the-variants.{Window, Erasing as Begun}
@@ -19,7 +18,7 @@ use Rattle.chip.specs.Setups.{in-limits}
 use Rattle.chip.specs.Flash.{Flash, view, with-state, size, inside, cell, protected, worn}
 use Rattle.chip.specs.Writes.{read-mode, program-time, block-mask, written}
 use Rattle.chip.specs.Reads.{seen}
-use Rattle.chip.specs.Times.{erase-time, with-clock, tick, passed}
+use Rattle.chip.specs.Times.{erase-time, tick, passed}
 use Rattle.chip.specs.Resets.{after-reset}
 
 -- What is true of every chip that there is: its numbers are inside their limits, it has as many cells as its geometry

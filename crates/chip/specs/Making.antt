@@ -1,6 +1,6 @@
 -- The making of a chip.
 use Prim.Native.Nat.{ℕ}
-use mathlib.Core.Bool.{Bool, cond}
+use mathlib.Core.Bool.{cond}
 use mathlib.Core.List.{List, []}
 use lib.ListN.{length}
 use Rattle.std.specs.declared.result.Result.{Result}

@@ -6,7 +6,6 @@ use lib.Dec.{eqb, ltb}
 use Rattle.std.specs.declared.result.Result.{Result}
 use Rattle.geometry.specs.Plans.{plan-of}
 use Rattle.chip.specs.declared.fault.ChipFault.{ChipFault}
-use Rattle.chip.specs.declared.state.Mode.{Mode}
 use Rattle.chip.specs.declared.state.Mode.the-variants.{Read, Id}
 use Rattle.chip.specs.declared.state.Phase.{Phase}
 use Rattle.chip.specs.declared.state.Phase.the-variants.{Window, Erasing as Begun}

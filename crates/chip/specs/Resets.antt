@@ -1,6 +1,6 @@
 -- The reset pin. It gives read mode, and what it breaks off leaves its mark.
 use Prim.Native.Nat.{ℕ}
-use mathlib.Core.Bool.{Bool, true, false, cond, _||_}
+use mathlib.Core.Bool.{cond, _||_}
 use mathlib.Core.List.{List}
 use Rattle.geometry.specs.Blocks.{filled}
 use Rattle.chip.specs.declared.state.Phase.{Phase}

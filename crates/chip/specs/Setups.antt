@@ -1,6 +1,6 @@
 -- The numbers that a chip may be made with.
-use Prim.Native.Nat.{ℕ, _<_, _≤_}
-use mathlib.Core.Bool.{Bool, true, false, cond, _&&_}
+use Prim.Native.Nat.{ℕ}
+use mathlib.Core.Bool.{Bool, _&&_}
 use lib.Dec.{eqb, leb, ltb}
 use Rattle.chip.specs.declared.setup.Setup.{Setup}
 use Rattle.geometry.specs.Plans.{plan-of}

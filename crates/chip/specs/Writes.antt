@@ -1,16 +1,15 @@
 -- The write cycle. It changes what the chip is doing, and no cell: a cell changes when an operation ends.
-use Prim.Native.Nat.{ℕ, _+_, _*_, _%_, _^_}
-use mathlib.Core.Bool.{Bool, true, false, cond, not, _&&_, _||_}
+use Prim.Native.Nat.{ℕ, _%_, _^_}
+use mathlib.Core.Bool.{Bool, false, cond, not, _||_}
 use lib.Bits.{bitAnd, bitOr}
-use lib.Count.{ones}
-use lib.Dec.{eqb, ltb}
+use lib.Dec.{eqb}
 use Rattle.std.specs.declared.result.Result.{Result}
 use Rattle.std.specs.declared.result.Result.the-variants.{Ok, Err}
 use Rattle.refusal.specs.declared.Cause.the-variants.{AddressOutside}
 use Rattle.geometry.specs.Blocks.{block-of}
 use Rattle.chip.specs.declared.fault.ChipFault.{ChipFault}
 use Rattle.chip.specs.declared.state.Mode.{Mode}
-use Rattle.chip.specs.declared.state.Mode.the-variants.{Read, Id}
+use Rattle.chip.specs.declared.state.Mode.the-variants.{Read}
 use Rattle.chip.specs.declared.state.Place.the-variants.{Start}
 use Rattle.chip.specs.declared.state.Decision.{Decision}
 use Rattle.chip.specs.declared.state.Decision.the-variants.{Next, Enter, Program, Erase, GiveUp}

@@ -1,24 +1,21 @@
 -- A burn and a beginning of a driven chip, in the words of a part.
-use Prim.Native.Nat.{ℕ, _+_, _%_, _^_, _<_, _≤_}
+use Prim.Native.Nat.{ℕ, _+_, _^_, _<_, _≤_}
 use mathlib.Core.Path.{_≡_, refl, sym, ap, subst, _∙_}
 use mathlib.Core.Bool.{Bool, true, false, cond, not, _&&_}
 use mathlib.Core.Logic.{inl, inr}
 use native.Mathlib.Omega.{arith}
-use lib.Dec.{leb, ltb, lit≤}
-use lib.ListN.{length, getD, set}
+use lib.Dec.{ltb, lit≤}
+use lib.ListN.{length, getD}
 use Rattle.std.proofs.shelf.Lists.{getD-past}
 use Rattle.std.proofs.shelf.Tests.{ltb-true, lt-ltb, ltb-false, cases-bool, cond-true, cond-false, cond-both, true≢false}
-use Rattle.std.specs.declared.option.Option.{Option}
 use Rattle.std.specs.declared.option.Option.the-variants.{Some, None}
 use Rattle.geometry.specs.Blocks.{bit, block-of}
 use Rattle.geometry.specs.declared.tables.Block.{Block}
 use Rattle.geometry.specs.Plans.{Plan, plan-of, block-at}
 use Rattle.geometry.proofs.Placing.{every-plan, every-block, every-few}
-use Rattle.chip.specs.declared.setup.Setup.{Setup}
 use Rattle.chip.specs.declared.state.Phase.the-variants.{Window}
-use Rattle.chip.specs.declared.state.Erase.{Erase}
 use Rattle.chip.specs.declared.state.State.the-variants.{Erasing}
-use Rattle.chip.specs.Flash.{Flash, with-state, with-cells, blocks, inside, protected}
+use Rattle.chip.specs.Flash.{Flash, with-state, blocks, inside, protected}
 use Rattle.chip.specs.Flash as flash
 use Rattle.chip.specs.Writes.{read-mode, block-mask}
 use Rattle.chip.specs.Times.{erase-time}
@@ -26,14 +23,14 @@ use Rattle.chip.specs.Laws.{Sound}
 use Rattle.chip.proofs.Limits.{limits}
 use Rattle.part.specs.declared.answers.Standing.{Standing}
 use Rattle.part.specs.declared.answers.Standing.the-variants.{Idle, Running, Suspended as Held}
-use Rattle.part.specs.Meaning.{Meaning, block, guarded, worn, ticked}
-use Rattle.part.specs.Calls.{stands, begin-no, Started, Took}
+use Rattle.part.specs.Meaning.{block, worn}
+use Rattle.part.specs.Calls.{stands, begin-no, Started}
 use Rattle.part.proofs.Granting.{erasable}
-use Rattle.driver.specs.Driven.{marks, erasure-in, meaning, tied, running}
+use Rattle.driver.specs.Driven.{marks, erasure-in, meaning, tied}
 use Rattle.driver.specs.Steps.{Burns, Programmed}
-use Rattle.driver.specs.Work.{moved, Clear, programmed}
+use Rattle.driver.specs.Work.{Clear, programmed}
 use Rattle.driver.proofs.OneBlock.{erase-time-one}
-use Rattle.driver.proofs.Tying.{when-idle, mark-at, starts, is-good, Good}
+use Rattle.driver.proofs.Tying.{when-idle, mark-at, starts, is-good}
 use Rattle.driver.proofs.Reading.{inside-is}
 
 -- where nothing stands, the driver knows of nothing

@@ -1,10 +1,10 @@
 -- The calls of a driven chip, put together from their steps.
-use Prim.Native.Nat.{ℕ, _<_, _≤_}
+use Prim.Native.Nat.{ℕ}
 use mathlib.Core.Path.{_≡_, refl, sym, ap, subst, _∙_}
-use mathlib.Core.Bool.{Bool, true, false, cond, not, _||_}
+use mathlib.Core.Bool.{Bool, true, false, cond, not}
 use mathlib.Core.Logic.{inl, inr}
 use native.Mathlib.Omega.{arith}
-use lib.Dec.{eqb, leb, ltb}
+use lib.Dec.{eqb, ltb}
 use lib.ListN.{length, getD}
 use Rattle.std.proofs.shelf.Tests.{cases-bool, cond-true, cond-false, ltb-true}
 use Rattle.std.specs.declared.option.Option.{Option}
@@ -13,9 +13,8 @@ use Rattle.std.specs.declared.result.Result.{Result}
 use Rattle.std.specs.declared.result.Result.the-variants.{Ok, Err}
 use Rattle.refusal.specs.declared.Cause.{Cause}
 use Rattle.refusal.specs.declared.Cause.the-variants.{AddressOutside, ErasureInTheWay, Guarded, NeedsErase, Worn}
-use Rattle.geometry.specs.declared.tables.Block.{Block}
 use Rattle.geometry.specs.Blocks.{start-of}
-use Rattle.geometry.specs.Plans.{Plan, plan-of, Contiguous}
+use Rattle.geometry.specs.Plans.{plan-of, Contiguous}
 use Rattle.geometry.specs.Plans as plans
 use Rattle.geometry.proofs.Placing.{every-plan, table-start}
 use Rattle.part.specs.declared.fault.PartFault.{PartFault}

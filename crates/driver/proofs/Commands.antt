@@ -1,21 +1,20 @@
 -- The driver's commands on a chip in read mode. Where one address is inside a chip, so are the command addresses.
-use Prim.Native.Nat.{ℕ, _%_, _^_, _<_, _≤_}
-use mathlib.Core.Path.{_≡_, refl, sym, ap, subst, _∙_}
-use mathlib.Core.Bool.{Bool, true, false, cond}
+use Prim.Native.Nat.{ℕ, _<_, _≤_}
+use mathlib.Core.Path.{_≡_, refl}
+use mathlib.Core.Bool.{true, false}
 use native.Mathlib.Omega.{arith}
-use lib.Dec.{ltb, lit≤}
+use lib.Dec.{lit≤}
 use Rattle.std.proofs.shelf.Tests.{ltb-true, lt-ltb}
 use Rattle.geometry.specs.Plans.{Plan, plan-of}
 use Rattle.geometry.proofs.Placing.{every-plan}
-use Rattle.chip.specs.declared.state.Mode.the-variants.{Read, Id}
-use Rattle.chip.specs.declared.state.Place.the-variants.{Start}
+use Rattle.chip.specs.declared.state.Mode.the-variants.{Read}
 use Rattle.chip.specs.declared.state.Phase.the-variants.{Window}
-use Rattle.chip.specs.declared.state.State.the-variants.{Ready, Erasing}
+use Rattle.chip.specs.declared.state.State.the-variants.{Erasing}
 use Rattle.chip.specs.Flash.{Flash, with-state, size, inside}
 use Rattle.chip.specs.Writes.{read-mode, program-time, block-mask, written}
 use Rattle.chip.specs.Laws.{First, Second-address}
 use Rattle.chip.proofs.WriteLaws.{write-laws}
-use Rattle.driver.specs.Work.{commanded, Clear, programs}
+use Rattle.driver.specs.Work.{commanded, programs}
 
 large : (kind : ℕ) → 1 ≤ plan-of kind .size → 32768 ≤ plan-of kind .size
 large kind =

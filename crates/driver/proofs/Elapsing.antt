@@ -1,15 +1,13 @@
 -- Time on a driven chip, in the words of a part.
-use Prim.Native.Nat.{ℕ, _+_, _-_, _%_, _^_, _<_, _≤_}
+use Prim.Native.Nat.{ℕ, _-_, _<_, _≤_}
 use mathlib.Core.Path.{_≡_, refl, sym, ap, subst, _∙_}
-use mathlib.Core.Bool.{Bool, true, false, cond, not}
+use mathlib.Core.Bool.{true, false, cond, not}
 use mathlib.Core.Logic.{inl, inr}
 use native.Mathlib.Omega.{arith}
 use lib.Dec.{leb, ltb, eqb, lit≤}
 use lib.ListN.{length, getD}
 use Rattle.std.proofs.shelf.Tests.{ltb-true, lt-ltb, le-ltb, eq-eqb, cases-lt, cases-bool, cond-true, cond-false, cond-both, leb-true}
-use Rattle.std.specs.declared.option.Option.{Option}
 use Rattle.std.specs.declared.option.Option.the-variants.{Some, None}
-use Rattle.std.specs.declared.result.Result.{Result}
 use Rattle.std.specs.declared.result.Result.the-variants.{Ok, Err}
 use Rattle.refusal.specs.declared.Cause.the-variants.{TimeTooLong}
 use Rattle.refusal.proofs.Granted.{granted, denied}
@@ -21,27 +19,22 @@ use Rattle.chip.specs.declared.fault.ChipFault.{ChipFault}
 use Rattle.chip.specs.declared.state.Phase.{Phase}
 use Rattle.chip.specs.declared.state.Phase.the-variants.{Window, Erasing as Begun}
 use Rattle.chip.specs.declared.state.Erase.{Erase}
-use Rattle.chip.specs.declared.state.State.{State}
-use Rattle.chip.specs.declared.state.State.the-variants.{Erasing, Suspended, Failed as Broken}
-use Rattle.chip.specs.Flash.{Flash, with-state, with-cells, blocks, size, inside, erasable}
+use Rattle.chip.specs.declared.state.State.the-variants.{Erasing, Failed as Broken}
+use Rattle.chip.specs.Flash.{Flash, with-state, with-cells, blocks, inside, erasable}
 use Rattle.chip.specs.Writes.{read-mode, written}
-use Rattle.chip.specs.Reads.{begun, status, flip-erase, answered, seen}
+use Rattle.chip.specs.Reads.{begun, flip-erase, seen}
 use Rattle.chip.specs.Times.{spoils, erase-time, erased, due, steps, longest, waited, after}
 use Rattle.chip.specs.Laws.{Sound}
 use Rattle.chip.proofs.Limits.{limits}
 use Rattle.chip.proofs.Passing.{still}
 use Rattle.chip.proofs.WriteLaws.{write-in}
-use Rattle.part.specs.declared.fault.PartFault.{PartFault}
-use Rattle.part.specs.declared.answers.Progress.{Progress}
-use Rattle.part.specs.declared.answers.Progress.the-variants.{Running as Runs, Finished, Worn as Spoilt}
-use Rattle.part.specs.declared.answers.Turn.{Turn}
-use Rattle.part.specs.declared.answers.Turn.the-variants.{Done as Did, Nothing}
+use Rattle.part.specs.declared.answers.Turn.the-variants.{Nothing}
 use Rattle.part.specs.declared.answers.Standing.{Standing}
 use Rattle.part.specs.declared.answers.Standing.the-variants.{Idle, Running, Suspended as Held}
 use Rattle.part.specs.Faults.{raised}
-use Rattle.part.specs.Meaning.{Erasure, Meaning, worn, ticked, with-erasure}
+use Rattle.part.specs.Meaning.{Meaning, worn, ticked, with-erasure}
 use Rattle.part.specs.Meaning as meanings
-use Rattle.part.specs.Calls.{answer, pass-no, can-hold, run-on, passed, progress, after-pass}
+use Rattle.part.specs.Calls.{answer, pass-no, can-hold, passed, progress, after-pass}
 use Rattle.driver.specs.declared.verdict.Verdict.{Verdict}
 use Rattle.driver.specs.declared.verdict.Verdict.the-variants.{Busy, Done, Failed}
 use Rattle.driver.specs.Status.{judged, byte-of}
@@ -53,7 +46,7 @@ use Rattle.driver.proofs.Judging.{judged-busy, judged-failed, judged-done}
 use Rattle.driver.proofs.OneBlock.{filled-one, erasable-one, spoils-one, erase-time-one}
 use Rattle.driver.proofs.Polling.{see-in, answer-in}
 use Rattle.driver.proofs.Running.{goes-on, ends}
-use Rattle.driver.proofs.Tying.{Good, good, is-good, when-idle, when-running, when-held, starts}
+use Rattle.driver.proofs.Tying.{Good, is-good, when-idle, when-running, when-held, starts}
 use Rattle.driver.proofs.Burning.{marked}
 
 -- A time that is refused changes nothing.

@@ -2,16 +2,14 @@
 use Prim.Native.Nat.{ℕ, _+_, _-_, _<_, _≤_}
 use mathlib.Core.Path.{_≡_, refl, sym, ap, subst, _∙_}
 use mathlib.Core.Bool.{Bool, true, false, cond, not, _||_}
-use mathlib.Core.Logic.{_⊎_, inl, inr}
+use mathlib.Core.Logic.{inl, inr}
 use native.Mathlib.Omega.{arith}
 use lib.Dec.{lit≤}
 use lib.ListN.{set}
 use Rattle.std.proofs.shelf.Tests.{cases-lt, cases-bool, cond-true, cond-false, cond-both}
-use Rattle.chip.specs.declared.state.Place.the-variants.{Command, Data}
-use Rattle.chip.specs.declared.state.Mode.the-variants.{Read}
-use Rattle.chip.specs.declared.state.State.the-variants.{Ready, Failed as Broken}
-use Rattle.chip.specs.Flash.{Flash, with-state, with-cells, inside, cell, protected, worn}
-use Rattle.chip.specs.Writes.{read-mode, needs-erase, program-time, written}
+use Rattle.chip.specs.declared.state.State.the-variants.{Failed as Broken}
+use Rattle.chip.specs.Flash.{Flash, with-state, with-cells, protected, worn}
+use Rattle.chip.specs.Writes.{read-mode, program-time, written}
 use Rattle.chip.specs.Laws.{Sound}
 use Rattle.chip.proofs.WriteLaws.{write-in}
 use Rattle.driver.specs.declared.verdict.Verdict.{Verdict}

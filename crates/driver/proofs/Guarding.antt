@@ -1,11 +1,11 @@
 -- Reading the guards of a chip in ID mode.
-use Prim.Native.Nat.{ℕ, suc, _+_, _*_, _/_, _%_, _^_, _<_, _≤_}
+use Prim.Native.Nat.{ℕ, _+_, _*_, _/_, _%_, _^_, _<_}
 use mathlib.Core.Path.{_≡_, refl, sym, ap, subst, _∙_}
 use mathlib.Core.Bool.{Bool, true, false, cond, _&&_}
 use mathlib.Core.Logic.{inl, inr}
 use native.Mathlib.Omega.{arith}
 use lib.Bits.{bitAnd}
-use lib.Dec.{eqb, ltb, leb}
+use lib.Dec.{eqb, ltb}
 use lib.ListN.{length, getD}
 use Rattle.std.proofs.shelf.Bits.{mod-pow-add}
 use Rattle.std.proofs.shelf.Tests.{and-parts, eqb-true, eqb-false, le-ltb, ltb-false, cases-bool, cond-true, cond-false, false≢true}
@@ -16,13 +16,13 @@ use Rattle.geometry.specs.Plans.{Plan, plan-of, block-at}
 use Rattle.geometry.proofs.Bitwise.{below, at-below}
 use Rattle.geometry.proofs.Placing.{every-plan}
 use Rattle.chip.specs.declared.state.Mode.the-variants.{Read, Id}
-use Rattle.chip.specs.declared.state.Place.the-variants.{Start, Data}
+use Rattle.chip.specs.declared.state.Place.the-variants.{Start}
 use Rattle.chip.specs.declared.state.State.{State}
 use Rattle.chip.specs.declared.state.State.the-variants.{Ready}
 use Rattle.chip.specs.Flash.{Flash, with-state, blocks, size, inside, protected}
 use Rattle.chip.specs.Writes.{read-mode, written}
-use Rattle.chip.specs.Reads.{identity, shown, answered, seen}
-use Rattle.chip.proofs.WriteLaws.{write-laws, read-laws}
+use Rattle.chip.specs.Reads.{identity, shown, answered}
+use Rattle.chip.proofs.WriteLaws.{write-laws}
 use Rattle.driver.specs.Status.{byte-of}
 use Rattle.driver.specs.Work.{commanded, guard-answer}
 use Rattle.driver.proofs.Polling.{answer-in}

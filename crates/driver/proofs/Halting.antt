@@ -1,6 +1,6 @@
 -- The turns of a suspension, up to its end.
 use Prim.Native.Nat.{ℕ, max, _+_, _-_, _<_, _≤_}
-use mathlib.Core.Path.{_≡_, refl, sym, ap, subst, _∙_}
+use mathlib.Core.Path.{_≡_, refl, ap, _∙_}
 use mathlib.Core.Bool.{Bool, true, false, cond, not}
 use mathlib.Core.Logic.{inl, inr}
 use native.Mathlib.Omega.{arith}
@@ -14,7 +14,7 @@ use Rattle.chip.specs.declared.state.State.{State}
 use Rattle.chip.specs.declared.state.State.the-variants.{Erasing, Suspending, Suspended}
 use Rattle.chip.specs.Flash.{Flash, with-state, inside}
 use Rattle.chip.specs.Writes.{interrupted, written}
-use Rattle.chip.specs.Reads.{begun, status, erase-status, shown, flipped, answered, seen}
+use Rattle.chip.specs.Reads.{begun, status, shown, flipped, answered, seen}
 use Rattle.chip.specs.Times.{steps}
 use Rattle.chip.proofs.Passing.{until, over}
 use Rattle.chip.proofs.WriteLaws.{write-in}

@@ -1,15 +1,13 @@
 -- A hold of a driven chip, in the words of a part.
-use Prim.Native.Nat.{ℕ, _≤_}
+use Prim.Native.Nat.{ℕ}
 use mathlib.Core.Path.{_≡_, refl, sym, ap, subst, _∙_}
 use mathlib.Core.Bool.{Bool, true, false}
-use lib.Dec.{lit≤}
 use native.Mathlib.Omega.{arith}
 use Rattle.std.specs.declared.option.Option.the-variants.{Some}
 use Rattle.chip.specs.declared.state.Phase.{Phase}
 use Rattle.chip.specs.declared.state.Phase.the-variants.{Window, Erasing as Begun}
 use Rattle.chip.specs.declared.state.Erase.{Erase}
-use Rattle.chip.specs.declared.state.State.the-variants.{Suspended}
-use Rattle.chip.specs.Flash.{Flash, with-state}
+use Rattle.chip.specs.Flash.{Flash}
 use Rattle.chip.specs.Laws.{Sound}
 use Rattle.chip.proofs.Limits.{limits}
 use Rattle.part.specs.declared.answers.Turn.the-variants.{Done}
@@ -18,7 +16,7 @@ use Rattle.part.specs.declared.answers.Standing.the-variants.{Running, Suspende
 use Rattle.part.specs.Meaning.{with-erasure, ticked}
 use Rattle.part.specs.Calls.{can-hold, Held}
 use Rattle.driver.specs.Driven.{left-of, time-left, erasure-in, meaning, tied}
-use Rattle.driver.specs.Work.{moved, erase-of, with-toggle, Halted}
+use Rattle.driver.specs.Work.{erase-of, with-toggle, Halted}
 use Rattle.driver.proofs.Tying.{when-running}
 
 toggle-left : (f : Flash) (e : Erase) (t : Bool) (p : Phase) → left-of f (with-toggle e t) p ≡ left-of f e p

@@ -1,13 +1,12 @@
 -- What the status bits tell.
 use Prim.Native.Nat.{ℕ, _+_, _/_, _%_, _<_}
-use mathlib.Core.Path.{_≡_, refl, sym, ap, _∙_}
+use mathlib.Core.Path.{_≡_, refl}
 use mathlib.Core.Bool.{Bool, true, false, cond}
 use mathlib.Core.Logic.{inl, inr}
 use native.Mathlib.Omega.{arith}
-use lib.Dec.{eqb, ltb}
+use lib.Dec.{eqb}
 use Rattle.std.proofs.shelf.Tests.{lt-ltb, le-ltb, eq-eqb, cases-lt, cond-true}
 use Rattle.chip.specs.Reads.{status}
-use Rattle.driver.specs.declared.verdict.Verdict.{Verdict}
 use Rattle.driver.specs.declared.verdict.Verdict.the-variants.{Busy, Done, Failed}
 use Rattle.driver.specs.Status.{dq7, judged}
 

@@ -3,15 +3,12 @@ use Prim.Native.Nat.{ℕ, _+_, _%_, _<_, _≤_}
 use mathlib.Core.Path.{_≡_, refl, sym, ap, _∙_}
 use mathlib.Core.Bool.{Bool, true, false, cond}
 use native.Mathlib.Omega.{arith}
-use lib.Dec.{leb}
 use Rattle.std.proofs.shelf.Tests.{le-leb}
-use Rattle.std.specs.declared.result.Result.{Result}
-use Rattle.chip.specs.declared.fault.ChipFault.{ChipFault}
 use Rattle.chip.specs.Flash.{Flash, with-state, inside}
 use Rattle.chip.specs.Writes.{heeded, written}
 use Rattle.chip.specs.Reads.{flipped, answered, seen}
-use Rattle.chip.specs.Times.{with-clock, steps, passed, longest, after}
-use Rattle.chip.proofs.Passing.{clock-cond, steps-clock, steps-count, passed-is}
+use Rattle.chip.specs.Times.{with-clock, steps, longest, after}
+use Rattle.chip.proofs.Passing.{steps-clock, steps-count, passed-is}
 use Rattle.driver.specs.Work.{moved}
 
 pub moved-none : (f : Flash) → f .clock < 4294967296 → moved f 0 ≡ f

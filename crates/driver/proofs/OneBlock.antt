@@ -1,5 +1,5 @@
 -- An erase of one block that is not protected.
-use Prim.Native.Nat.{ℕ, _*_, _^_, _<_, _≤_}
+use Prim.Native.Nat.{ℕ, _^_, _<_}
 use mathlib.Core.Path.{_≡_, refl, sym, ap, _∙_}
 use mathlib.Core.Bool.{Bool, true, false, cond, not, _&&_}
 use mathlib.Core.List.{List}
@@ -16,7 +16,7 @@ use Rattle.geometry.specs.Blocks.{bit, block-of, filled, wiped}
 use Rattle.geometry.proofs.Bitwise.{bit-not, bit-one, and-one, ones-one}
 use Rattle.geometry.proofs.Filling.{filled-at, length-filled}
 use Rattle.geometry.proofs.Wiping.{wiped-at, length-wiped}
-use Rattle.chip.specs.Flash.{Flash, blocks, lies-in, without, erasable}
+use Rattle.chip.specs.Flash.{Flash, erasable}
 use Rattle.chip.specs.Times.{spoils, erase-time}
 
 -- Filling by the mask of one block wipes that block.

@@ -1,26 +1,21 @@
 -- One poll of a chip that programs: one microsecond, then one read.
-use Prim.Native.Nat.{ℕ, max, _+_, _-_, _%_, _<_, _≤_}
-use mathlib.Core.Path.{_≡_, refl, sym, ap, _∙_}
+use Prim.Native.Nat.{ℕ, max, _+_, _-_, _<_, _≤_}
+use mathlib.Core.Path.{_≡_, refl, ap, _∙_}
 use mathlib.Core.Bool.{Bool, true, false, cond, not}
-use mathlib.Core.List.{List}
 use native.Mathlib.Omega.{arith}
 use lib.Bits.{bitAnd}
-use lib.Dec.{eqb, leb, lit≤}
+use lib.Dec.{lit≤}
 use lib.ListN.{length, getD, set}
 use Rattle.std.proofs.shelf.Lists.{getD-set-same}
 use Rattle.std.proofs.shelf.Tests.{eqb-true, not-false, cond-true, cond-false, ltb-true}
 use Rattle.std.specs.declared.option.Option.the-variants.{Some}
-use Rattle.std.specs.declared.result.Result.the-variants.{Ok}
-use Rattle.chip.specs.declared.state.Program.{Program}
-use Rattle.chip.specs.declared.state.State.{State}
-use Rattle.chip.specs.declared.state.State.the-variants.{Programming, Failed as Broken}
+use Rattle.chip.specs.declared.state.State.the-variants.{Failed as Broken}
 use Rattle.chip.specs.Flash.{Flash, with-state, with-cells, inside, cell, protected, worn}
-use Rattle.chip.specs.Writes.{read-mode, needs-erase, written}
-use Rattle.chip.specs.Reads.{shown, flipped, status, answered, seen}
-use Rattle.chip.specs.Times.{ended, due, lowered, steps}
+use Rattle.chip.specs.Writes.{read-mode}
+use Rattle.chip.specs.Reads.{shown, flipped, answered, seen}
+use Rattle.chip.specs.Times.{ended, steps}
 use Rattle.chip.specs.Laws.{Sound}
 use Rattle.chip.proofs.Passing.{until, over}
-use Rattle.driver.specs.declared.verdict.Verdict.{Verdict}
 use Rattle.driver.specs.declared.verdict.Verdict.the-variants.{Busy, Done, Failed}
 use Rattle.driver.specs.Status.{judged, byte-of}
 use Rattle.driver.specs.Work.{moved, polled, poll-verdict, Clear, programs}

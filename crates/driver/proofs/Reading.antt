@@ -1,14 +1,12 @@
 -- A read cycle of a driven chip, in the words of a part.
-use Prim.Native.Nat.{ℕ, _%_, _^_, _<_, _≤_}
-use mathlib.Core.Path.{_≡_, refl, sym, ap, subst, _∙_}
-use mathlib.Core.Bool.{Bool, true, false, cond, not, _||_}
-use mathlib.Core.Logic.{inl, inr}
+use Prim.Native.Nat.{ℕ, _%_, _^_}
+use mathlib.Core.Path.{_≡_, refl, ap, _∙_}
+use mathlib.Core.Bool.{Bool, true, false, cond}
 use native.Mathlib.Omega.{arith}
-use lib.Dec.{eqb, leb, ltb}
+use lib.Dec.{eqb}
 use lib.ListN.{length}
-use Rattle.std.proofs.shelf.Tests.{ltb-true, le-ltb, lt-ltb, leb-true, leb-false, cond-true, cond-false, both-ways, eq-eqb, true≢false}
+use Rattle.std.proofs.shelf.Tests.{le-ltb, lt-ltb, leb-true, leb-false, cond-true, cond-false, true≢false}
 use Rattle.std.proofs.shelf.Ways.{tells}
-use Rattle.std.specs.declared.result.Result.{Result}
 use Rattle.std.specs.declared.result.Result.the-variants.{Ok, Err}
 use Rattle.refusal.specs.declared.Cause.the-variants.{AddressOutside}
 use Rattle.geometry.specs.Blocks.{bit, block-of}
@@ -17,11 +15,9 @@ use Rattle.geometry.proofs.Bitwise.{bit-one}
 use Rattle.chip.specs.declared.fault.ChipFault.{ChipFault}
 use Rattle.chip.specs.declared.setup.Setup.{Setup}
 use Rattle.chip.specs.declared.state.State.{State}
-use Rattle.chip.specs.declared.state.State.the-variants.{Erasing, Suspended}
 use Rattle.chip.specs.Flash.{Flash, with-state, blocks, size, inside, cell, lies-in}
 use Rattle.chip.specs.Reads.{shown, flipped, answered, seen}
 use Rattle.chip.specs.Laws.{Sound}
-use Rattle.part.specs.declared.fault.PartFault.{PartFault}
 use Rattle.part.specs.declared.answers.Standing.{Standing}
 use Rattle.part.specs.declared.answers.Standing.the-variants.{Idle, Running, Suspended as Held}
 use Rattle.part.specs.Faults.{raised}
@@ -29,7 +25,7 @@ use Rattle.part.specs.Calls.{outside, hides}
 use Rattle.driver.specs.Driven.{erasure-in, meaning, tied}
 use Rattle.driver.specs.Steps.{Read}
 use Rattle.driver.specs.Work.{erase-of}
-use Rattle.driver.proofs.Tying.{when-idle, when-running, when-held}
+use Rattle.driver.proofs.Tying.{when-idle, when-held}
 
 eqb-comm : (a b : ℕ) → eqb a b ≡ eqb b a
 eqb-comm a b = grind (arith, tells)

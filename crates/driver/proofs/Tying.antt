@@ -1,17 +1,14 @@
 -- What the driver's record of an erasure says of the chip.
-use Prim.Native.Nat.{ℕ, zero, suc, _+_, _-_, _%_, _/_, _^_, _<_, _≤_}
+use Prim.Native.Nat.{ℕ, zero, suc, _+_, _^_, _<_, _≤_}
 use mathlib.Core.Path.{_≡_, refl, sym, ap, subst, _∙_}
 use mathlib.Core.Bool.{Bool, true, false, cond, not, _&&_}
-use mathlib.Core.List.{List, [], _∷_}
-use mathlib.Core.Logic.{inl, inr}
 use native.Mathlib.Omega.{arith}
 use lib.Dec.{eqb, leb, ltb, lit≤}
 use lib.ListN.{length, getD}
-use Rattle.std.proofs.shelf.Tests.{and-parts, and-from, ltb-true, lt-ltb, le-ltb, eqb-true, eq-eqb, leb-true, le-leb, not-true, false≢true, cases-bool, cond-true, cond-false}
+use Rattle.std.proofs.shelf.Tests.{and-parts, and-from, ltb-true, lt-ltb, le-ltb, eqb-true, eq-eqb, leb-true, le-leb, not-true, false≢true}
 use Rattle.std.proofs.shelf.Ways.{tells}
-use Rattle.std.specs.declared.option.Option.{Option}
-use Rattle.std.specs.declared.option.Option.the-variants.{Some, None}
-use Rattle.geometry.specs.Blocks.{bit, total, start-of, block-of}
+use Rattle.std.specs.declared.option.Option.the-variants.{Some}
+use Rattle.geometry.specs.Blocks.{bit, block-of}
 use Rattle.geometry.specs.Plans.{Plan, plan-of}
 use Rattle.geometry.proofs.Bitwise.{below, at-below}
 use Rattle.geometry.proofs.Placing.{every-plan, every-total, every-few}
@@ -25,12 +22,11 @@ use Rattle.chip.specs.declared.state.State.the-variants.{Ready, Programming, Er
 use Rattle.chip.specs.Flash.{Flash, with-state, blocks, size, inside}
 use Rattle.chip.specs.Writes.{read-mode}
 use Rattle.chip.specs.Reads.{flipped, seen}
-use Rattle.chip.specs.Times.{erase-time}
 use Rattle.chip.specs.Laws.{Sound}
 use Rattle.part.specs.declared.answers.Standing.{Standing}
 use Rattle.part.specs.declared.answers.Standing.the-variants.{Idle, Running, Suspended as Held}
 use Rattle.part.specs.Meaning.{Erasure-lawful, Lawful, standing-of}
-use Rattle.driver.specs.Driven.{marks, left-of, time-left, erasure-in, meaning, is-read, is-start, erases, ready, running, held, tied}
+use Rattle.driver.specs.Driven.{marks, left-of, time-left, erasure-in, meaning, erases, ready, running, held, tied}
 use Rattle.driver.specs.Work.{erase-of}
 
 ready-is : (s : State) → ready s ≡ true → s ≡ read-mode

@@ -1,5 +1,5 @@
 -- What the driver's operations do to a chip, clock included.
-use Prim.Native.Nat.{ℕ, _+_, _%_, _^_}
+use Prim.Native.Nat.{ℕ, _+_, _%_}
 use mathlib.Core.Path.{_≡_}
 use mathlib.Core.Bool.{Bool, true, false, cond}
 use lib.Dec.{eqb}
@@ -10,7 +10,7 @@ use Rattle.chip.specs.declared.state.State.{State}
 use Rattle.chip.specs.declared.state.Erase.{Erase}
 use Rattle.chip.specs.declared.state.State.the-variants.{Ready, Programming, Erasing, Suspending, Suspended, Failed}
 use Rattle.chip.specs.Flash.{Flash, with-state, with-cells, inside, cell, protected, worn}
-use Rattle.chip.specs.Writes.{read-mode, needs-erase, program-time, written}
+use Rattle.chip.specs.Writes.{read-mode, needs-erase, written}
 use Rattle.chip.specs.Reads.{answered, seen}
 use Rattle.chip.specs.Times.{with-clock, after}
 use Rattle.driver.specs.declared.verdict.Verdict.{Verdict}

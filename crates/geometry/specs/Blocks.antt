@@ -1,10 +1,9 @@
 -- Blocks in a row, given by their sizes alone: block 0 begins at address 0, and each other one where the one before it ends.
-use Prim.Native.Nat.{ℕ, zero, suc, _+_, _-_, _/_, _%_, _^_, _<_, _≤_}
-use mathlib.Core.Path.{_≡_}
-use mathlib.Core.Bool.{Bool, true, false, cond, _&&_}
+use Prim.Native.Nat.{ℕ, zero, suc, _+_, _-_, _/_, _%_, _^_}
+use mathlib.Core.Bool.{Bool, cond}
 use mathlib.Core.List.{List, [], _∷_, _++_, map}
 use lib.Dec.{eqb, ltb}
-use lib.ListN.{take, drop, getD, length}
+use lib.ListN.{take, drop}
 
 -- how many bytes the blocks have together
 abbrev pub total : List ℕ → ℕ

@@ -1,18 +1,17 @@
 -- What an accepted call says of the causes of refusal.
-use Prim.Native.Nat.{ℕ, _<_, _≤_}
-use mathlib.Core.Path.{_≡_, refl, sym, ap, _∙_}
-use mathlib.Core.Bool.{Bool, true, false, cond, _||_}
-use mathlib.Core.Logic.{inl, inr}
+use Prim.Native.Nat.{ℕ, _<_}
+use mathlib.Core.Path.{_≡_, refl, sym, ap}
+use mathlib.Core.Bool.{Bool, true, false, cond}
 use native.Mathlib.Omega.{arith}
 use lib.Dec.{leb}
-use Rattle.std.proofs.shelf.Tests.{leb-false, cases-bool, cond-true, cond-false}
+use Rattle.std.proofs.shelf.Tests.{leb-false}
 use Rattle.std.specs.declared.option.Option.{Option}
 use Rattle.std.specs.declared.option.Option.the-variants.{Some, None}
 use Rattle.std.specs.declared.result.Result.the-variants.{Ok, Err}
 use Rattle.refusal.specs.declared.Cause.{Cause}
 use Rattle.part.specs.declared.fault.PartFault.{PartFault}
 use Rattle.part.specs.Meaning.{Meaning, size, count, cell, block, guarded, worn}
-use Rattle.part.specs.Calls.{answer, stands, hides, outside, needs-erase, peek-no, burn-no, begin-no}
+use Rattle.part.specs.Calls.{answer, stands, outside, needs-erase, burn-no, begin-no}
 
 pub answer-ok : {X : Type 0} (no : Option Cause) (place : ℕ) (x y : X) → answer no place x ≡ Ok y → no ≡ None
 answer-ok None place x y e = refl
@@ -29,16 +28,6 @@ answer-err (Some c) place x f e =
 passes : (t : Bool) (c : Cause) (rest : Option Cause) → cond t (Some c) rest ≡ None → (t ≡ false) × (rest ≡ None)
 passes true c rest e = let z : _≡_ {A = ℕ} 0 1 = cc in absurd (omega arith)
 passes false c rest e = (refl, e)
-
-pub record Peekable (m : Meaning) (a : ℕ) : Type 0 where
-  pub within : a < size m
-  pub seen : hides (m .erasure) (block m a) ≡ false
-
-pub peekable : (m : Meaning) (a : ℕ) → peek-no m a ≡ None → Peekable m a
-peekable m a e =
-    let p = passes (outside m a) _ _ e in
-    let q = passes (hides (m .erasure) (block m a)) _ _ (p .1) in
-    record { within = leb-false (size m) a (p .0); seen = q .0 }
 
 pub record Burnable (m : Meaning) (a byte : ℕ) : Type 0 where
   pub within : a < size m

@@ -1,11 +1,11 @@
 -- The laws of a part.
-use Prim.Native.Nat.{ℕ, _+_, _-_, _%_, _<_, _≤_}
+use Prim.Native.Nat.{ℕ, _+_, _-_, _<_, _≤_}
 use mathlib.Core.Path.{_≡_, refl, sym, ap, subst, _∙_}
 use mathlib.Core.Bool.{Bool, true, false, cond}
 use mathlib.Core.List.{List, [], _∷_}
 use mathlib.Core.Logic.{inl, inr}
 use native.Mathlib.Omega.{arith}
-use lib.Dec.{eqb, leb, ltb, lit≤}
+use lib.Dec.{eqb, leb, ltb}
 use lib.ListN.{length, getD, set}
 use Rattle.std.proofs.shelf.Lists.{length-set, getD-set-same, getD-set-other}
 use Rattle.std.proofs.shelf.Tests.{lt-ltb, le-ltb, ltb-true, ne-eqb, cases-lt, cases-bool, cases-eq, cond-true, cond-false, cond-both, both-ways, true≢false}
@@ -13,16 +13,15 @@ use Rattle.std.specs.declared.option.Option.{Option}
 use Rattle.std.specs.declared.option.Option.the-variants.{Some, None}
 use Rattle.refusal.specs.declared.Cause.{Cause}
 use Rattle.refusal.specs.Numbers.{number-of}
-use Rattle.geometry.specs.Blocks.{block-of, wiped}
+use Rattle.geometry.specs.Blocks.{block-of}
 use Rattle.geometry.proofs.Wiping.{wiped-at, length-wiped}
-use Rattle.geometry.proofs.Placing.{block-within}
 use Rattle.part.specs.declared.answers.Progress.the-variants.{Running}
 use Rattle.part.specs.declared.answers.Turn.{Turn}
 use Rattle.part.specs.declared.answers.Turn.the-variants.{Done, Nothing}
 use Rattle.part.specs.Meaning.{Erasure, Meaning, size, count, cell, block, guarded, worn, with-cells, with-erasure, ticked, Erasure-lawful, Lawful}
-use Rattle.part.specs.Calls.{longest, stands, outside, burn-no, begin-no, Took, Refused, Burnt-by, Burnt, Started, Begun-by, Begun, set-running, turned, can-hold, Held-by, Held, gone-on, erased, run-on, passed, progress, after-pass}
+use Rattle.part.specs.Calls.{longest, stands, burn-no, begin-no, Took, Refused, Burnt-by, Burnt, Begun-by, turned, can-hold, Held-by, Held, gone-on, erased, run-on, passed, progress, after-pass}
 use Rattle.part.specs.Laws.{Call, look, burn, begin, hold, go-on, pass, Made, Run, none, more, spares, All-spare, Part-laws}
-use Rattle.part.proofs.Clocks.{ticked-none, ticked-more}
+use Rattle.part.proofs.Clocks.{ticked-more}
 use Rattle.part.proofs.Granting.{burnable, erasable}
 
 -- What a call leaves of the blocks: their sizes and marks, and the number of cells.
@@ -39,11 +38,6 @@ alike-same m n e = record {
   wears = ap (λ (x : Meaning). x .wears) e;
   cells = ap (λ (x : Meaning). length (x .cells)) e;
 }
-
--- the erasure that stands is in another block
-abbrev Elsewhere : Option Erasure → ℕ → Type 0
-Elsewhere None b = Unit {0}
-Elsewhere (Some e) b = e .block ≡ b → ⊥
 
 -- The end of an erasure leaves the cells of every other block, and of a worn one.
 erased-length : (m : Meaning) (b : ℕ) → length (erased m b) ≡ length (m .cells)

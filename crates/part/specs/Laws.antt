@@ -1,14 +1,13 @@
 -- What holds of every part, in the words of the workshop.
 use Prim.Native.Nat.{ℕ, _+_, _<_, _≤_}
 use mathlib.Core.Path.{_≡_}
-use mathlib.Core.Bool.{Bool, true, false, _||_}
+use mathlib.Core.Bool.{true, false}
 use mathlib.Core.List.{List, [], _∷_}
 use lib.Dec.{leb}
-use Rattle.std.specs.declared.option.Option.{Option}
 use Rattle.std.specs.declared.option.Option.the-variants.{Some, None}
 use Rattle.part.specs.declared.answers.Progress.the-variants.{Running}
 use Rattle.part.specs.declared.answers.Turn.the-variants.{Done}
-use Rattle.part.specs.Meaning.{Erasure, Meaning, size, count, cell, block, guarded, worn, ticked, Lawful}
+use Rattle.part.specs.Meaning.{Erasure, Meaning, size, cell, block, guarded, worn, ticked, Lawful}
 use Rattle.part.specs.Calls.{longest, stands, burn-no, Burnt, Begun, Held, can-hold, gone-on, progress, after-pass}
 
 -- One call of a part, accepted or refused, by the meaning before and after it. Peeks and questions leave the meaning.

@@ -1,4 +1,4 @@
-use mathlib.Core.Path.{_≡_, ap, _∙_}
+use mathlib.Core.Path.{ap, _∙_}
 use Rattle.chip.specs.Flash.{Flash, view}
 use Rattle.chip.specs.Writes.{written}
 use Rattle.driver.proofs.Commands.{begins-erase}

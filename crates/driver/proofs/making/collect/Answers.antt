@@ -1,11 +1,8 @@
-use Prim.Native.Nat.{ℕ, _+_, _*_, _%_, _^_, _<_}
+use Prim.Native.Nat.{ℕ, _+_, _<_}
 use mathlib.Core.Path.{_≡_, sym, ap, subst, _∙_}
 use native.Mathlib.Omega.{arith}
 use lib.ListN.{length}
 use Rattle.std.proofs.shelf.Bits.{one-shl}
-use Rattle.chip.specs.declared.state.Mode.the-variants.{Id}
-use Rattle.chip.specs.declared.state.Place.the-variants.{Start}
-use Rattle.chip.specs.declared.state.State.the-variants.{Ready}
 use Rattle.chip.specs.Flash.{Flash, view, blocks}
 use Rattle.geometry.proofs.Placing.{every-few}
 use Rattle.driver.specs.Work.{guard-answer}

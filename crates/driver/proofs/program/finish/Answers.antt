@@ -1,4 +1,4 @@
-use Prim.Native.Nat.{ℕ, _-_, _<_}
+use Prim.Native.Nat.{ℕ, _-_}
 use mathlib.Core.Path.{_≡_, sym, ap, _∙_}
 use mathlib.Core.Bool.{false}
 use native.Mathlib.Omega.{arith}
@@ -6,7 +6,7 @@ use Rattle.chip.specs.Flash.{view}
 use Rattle.chip.specs.Writes.{program-time}
 use Rattle.chip.proofs.Limits.{limits}
 use Rattle.chip.proofs.PassLaws.{all-sound}
-use Rattle.driver.specs.Work.{moved, programs}
+use Rattle.driver.specs.Work.{programs}
 use Rattle.driver.proofs.Moving.{moved-none}
 use Rattle.driver.proofs.Finishing.{found, if-busy, if-done, if-failed, span-positive}
 use Rattle.driver.proofs.program.finish.Needs as need

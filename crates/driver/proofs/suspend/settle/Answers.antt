@@ -1,10 +1,9 @@
-use Prim.Native.Nat.{ℕ, _-_, _<_}
+use Prim.Native.Nat.{ℕ, _-_}
 use mathlib.Core.Path.{_≡_, sym, ap, _∙_}
 use native.Mathlib.Omega.{arith}
-use Rattle.chip.specs.declared.state.State.{State}
 use Rattle.chip.specs.Flash.{view, with-state}
 use Rattle.chip.proofs.Limits.{limits}
-use Rattle.driver.specs.Work.{moved, erase-of}
+use Rattle.driver.specs.Work.{erase-of}
 use Rattle.driver.proofs.Moving.{moved-none}
 use Rattle.driver.proofs.Halting.{halting, still-halting, now-halted}
 use Rattle.driver.proofs.suspend.settle.Needs as need

@@ -1,7 +1,5 @@
-use Prim.Native.Nat.{ℕ}
 use mathlib.Core.Path.{_≡_, refl, sym, subst, _∙_}
 use mathlib.Core.Bool.{true}
-use Rattle.chip.specs.declared.chip.Chip.{Chip}
 use Rattle.chip.specs.declared.state.State.the-variants.{Suspending}
 use Rattle.chip.specs.Flash.{Flash, view, with-state, inside}
 use Rattle.driver.specs.Work.{erase-of, Halted}

@@ -1,5 +1,4 @@
 use native.Mathlib.Omega.{arith}
-use mathlib.Core.Path.{_≡_}
 use lib.ListN.{getD, length}
 use Prim.Native.Nat.{_<_, _≤_}
 use Rattle.geometry.proofs.Placing.{walk-here, walk-on, walk-off}

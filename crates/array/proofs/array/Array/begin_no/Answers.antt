@@ -1,8 +1,5 @@
-use Prim.Native.Nat.{_<_, _≤_}
 use mathlib.Core.Path.{_≡_, sym, _∙_}
 use mathlib.Core.Bool.{true, false}
-use native.Mathlib.Omega.{arith}
-use lib.Dec.{leb}
 use lib.ListN.{length, replicate}
 use Rattle.std.proofs.shelf.Lists.{length-replicate}
 use Rattle.std.proofs.shelf.Tests.{lt-leb, le-leb}

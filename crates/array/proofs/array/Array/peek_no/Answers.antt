@@ -1,12 +1,9 @@
-use Prim.Native.Nat.{ℕ, _*_, _/_, _<_, _≤_}
-use mathlib.Core.Path.{_≡_, sym, ap, _∙_}
+use Prim.Native.Nat.{_/_, _<_}
+use mathlib.Core.Path.{_≡_, sym, _∙_}
 use mathlib.Core.Bool.{true, false}
 use native.Mathlib.Omega.{arith}
-use lib.Dec.{leb}
-use lib.ListN.{length, replicate}
-use Rattle.std.proofs.shelf.Tests.{lt-leb}
+use lib.ListN.{length}
 use Rattle.std.specs.Of.Vec.{vec-items}
-use Rattle.geometry.specs.Blocks.{block-of}
 use Rattle.part.specs.Calls.{hides}
 use Rattle.array.specs.Means.{erasure-of}
 use Rattle.array.proofs.Facts.{inside, own-block}

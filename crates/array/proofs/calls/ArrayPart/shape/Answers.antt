@@ -1,4 +1,3 @@
-use mathlib.Core.Path.{_≡_, sym}
 use Rattle.std.proofs.shelf.Lists.{length-replicate}
 use Rattle.array.proofs.Facts.{standing-back}
 use Rattle.array.proofs.calls.ArrayPart.shape.Needs as need

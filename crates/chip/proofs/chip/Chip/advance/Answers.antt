@@ -2,8 +2,8 @@ use mathlib.Core.Path.{_≡_, sym, ap, _∙_}
 use Prim.Native.Nat.{ℕ, _+_, _-_}
 use native.Mathlib.Omega.{arith}
 use Rattle.std.specs.declared.option.Option.the-variants.{Some, None}
-use Rattle.chip.specs.Flash.{Flash, view, with-state}
-use Rattle.chip.specs.Times.{ended, due, lowered, steps}
+use Rattle.chip.specs.Flash.{view, with-state}
+use Rattle.chip.specs.Times.{due, steps}
 use Rattle.chip.proofs.Passing.{still, until, over, steps-none, steps-split, due-positive}
 use Rattle.chip.proofs.chip.Chip.advance.Needs as need
 

@@ -1,9 +1,7 @@
 use mathlib.Core.Path.{_≡_, sym, ap, _∙_}
-use mathlib.Core.List.{List, []}
 use mathlib.Core.Bool.{true, false}
-use Prim.Native.Nat.{ℕ}
 use lib.ListN.{length}
-use Rattle.std.specs.Of.Vec.{vec-items, vec-len}
+use Rattle.std.specs.Of.Vec.{vec-items}
 use Rattle.chip.specs.Setups.{fit, no-chip}
 use Rattle.chip.specs.Making.{fresh, made}
 use Rattle.chip.proofs.PassLaws.{all-sound}

@@ -2,10 +2,9 @@ use mathlib.Core.Path.{_≡_, sym, _∙_}
 use mathlib.Core.Bool.{true}
 use borrow.Author.Needs.{needs}
 use lib.Dec.{leb}
-use Rattle.std.specs.declared.result.Result.the-variants.{Ok}
 use Rattle.refusal.proofs.Granted.{granted}
 use Rattle.chip.specs.Flash.{view}
-use Rattle.chip.specs.Times.{longest, waited, after}
+use Rattle.chip.specs.Times.{longest, after}
 use Rattle.chip.proofs.Passing.{counted}
 use Rattle.chip.proofs.PassLaws.{pass-laws}
 use Rattle.chip.proofs.chip.Chip.pass.Needs as need

@@ -1,19 +1,17 @@
 use Prim.Native.Nat.{ℕ}
 use mathlib.Core.Path.{_≡_, refl, sym, ap, subst, _∙_}
-use mathlib.Core.Bool.{Bool, true, false}
-use Rattle.std.specs.declared.option.Option.{Option}
+use mathlib.Core.Bool.{Bool}
 use Rattle.std.specs.declared.option.Option.the-variants.{None}
 use Rattle.std.specs.declared.result.Result.{Result}
 use Rattle.std.specs.declared.result.Result.the-variants.{Ok, Err}
 use Rattle.std.proofs.shelf.Results.{err-from-errBy}
-use Rattle.refusal.specs.declared.Cause.{Cause}
 use Rattle.refusal.specs.declared.Cause.the-variants.{AddressOutside, Worn}
 use Rattle.part.specs.declared.fault.PartFault.{PartFault}
 use Rattle.part.specs.Meaning.{Meaning}
 use Rattle.part.specs.Calls.{answer}
 use Rattle.part.proofs.Granting.{answer-ok, answer-err}
 use Rattle.driver.specs.Means.{means}
-use Rattle.driver.specs.Steps.{Read, burn-why, Burns, Programmed}
+use Rattle.driver.specs.Steps.{Read, burn-why, Programmed}
 use Rattle.driver.proofs.Calling.{read-broke, read-gave, burn-outside, why, why-refused, why-free, Burn, burn-refused, burn-done, burn-worn}
 use Rattle.driver.proofs.calls.DrivenPart.burn.Needs as need
 

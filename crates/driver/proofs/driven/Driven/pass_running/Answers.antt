@@ -1,12 +1,8 @@
-use Prim.Native.Nat.{ℕ}
-use mathlib.Core.Path.{_≡_, refl, sym, subst, ap, _∙_}
-use mathlib.Core.Bool.{true, false}
-use lib.ListN.{getD}
+use mathlib.Core.Path.{_≡_, sym, subst, ap, _∙_}
 use Rattle.std.specs.declared.result.Result.the-variants.{Ok, Err}
 use Rattle.std.proofs.shelf.Results.{err-from-errBy}
 use Rattle.std.proofs.shelf.Tests.{cond-true, cond-false}
 use Rattle.chip.specs.Flash.{Flash, view}
-use Rattle.chip.specs.Times.{waited, after, longest}
 use Rattle.chip.proofs.PassLaws.{all-sound}
 use Rattle.part.specs.declared.answers.Standing.{Standing}
 use Rattle.part.specs.Calls.{progress, passed}

@@ -1,9 +1,7 @@
-use mathlib.Core.Path.{_≡_, sym, subst, ap, _∙_}
-use mathlib.Core.Bool.{true}
-use Rattle.std.specs.declared.result.Result.the-variants.{Ok, Err}
+use mathlib.Core.Path.{sym, subst, ap, _∙_}
+use Rattle.std.specs.declared.result.Result.the-variants.{Err}
 use Rattle.std.proofs.shelf.Results.{err-from-errBy}
 use Rattle.chip.specs.Flash.{view}
-use Rattle.chip.specs.Times.{waited}
 use Rattle.chip.proofs.PassLaws.{all-sound}
 use Rattle.driver.proofs.Reading.{Knows}
 use Rattle.driver.proofs.Elapsing.{waited-still, too-long, refused-answer, granted-answer, short-enough}

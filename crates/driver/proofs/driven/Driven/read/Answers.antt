@@ -1,9 +1,6 @@
-use Prim.Native.Nat.{ℕ}
 use mathlib.Core.Path.{_≡_, sym, ap, subst, _∙_}
-use mathlib.Core.Bool.{true}
 use Rattle.std.specs.declared.result.Result.the-variants.{Ok, Err}
 use Rattle.std.proofs.shelf.Results.{err-from-errBy}
-use Rattle.chip.specs.declared.setup.Setup.{Setup}
 use Rattle.chip.specs.Flash.{Flash, view}
 use Rattle.chip.specs.Reads.{answered}
 use Rattle.chip.proofs.PassLaws.{all-sound}

@@ -1,7 +1,6 @@
 use Prim.Native.Nat.{ℕ}
-use mathlib.Core.Path.{_≡_, sym, ap, subst, _∙_}
-use mathlib.Core.Bool.{true, false}
-use Rattle.chip.specs.declared.setup.Setup.{Setup}
+use mathlib.Core.Path.{sym, ap, subst, _∙_}
+use mathlib.Core.Bool.{false}
 use Rattle.chip.specs.declared.state.Phase.the-variants.{Window}
 use Rattle.chip.specs.declared.state.State.the-variants.{Erasing}
 use Rattle.chip.specs.Flash.{Flash, view, with-state, inside}
