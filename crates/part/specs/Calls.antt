@@ -4,7 +4,6 @@ use Prim.Native.Nat.{ℕ, _-_, _≤_}
 use mathlib.Core.Path.{_≡_}
 use mathlib.Core.Bool.{Bool, true, false, cond, not, _||_}
 use mathlib.Core.List.{List}
-use lib.Bits.{bitAnd}
 use lib.Dec.{eqb, leb, ltb}
 use lib.ListN.{getD, set}
 use Rattle.std.specs.declared.option.Option.{Option}
@@ -16,6 +15,9 @@ use Rattle.refusal.specs.declared.Cause.the-variants.{AddressOutside, NoSuchBlo
 use Rattle.refusal.specs.Numbers.{number-of}
 use Rattle.geometry.specs.declared.tables.Block.{Block}
 use Rattle.geometry.specs.Blocks.{start-of, wiped}
+-- that a byte has a 1 where the cell has a 0, and the longest time of one call, are the chip's
+pub use Rattle.chip.specs.Writes.{needs-erase}
+pub use Rattle.chip.specs.Times.{longest}
 use Rattle.part.specs.declared.fault.PartFault.{PartFault}
 use Rattle.part.specs.declared.answers.Progress.{Progress}
 use Rattle.part.specs.declared.answers.Progress.the-variants.{Idle, Running, Suspended, Finished, Worn as Spoilt}
@@ -43,10 +45,6 @@ hides (Some e) b = e .running || eqb (e .block) b
 abbrev pub outside : Meaning → ℕ → Bool
 outside m a = leb (size m) a
 
--- the byte has a 1 where the cell has a 0
-abbrev pub needs-erase : ℕ → ℕ → Bool
-needs-erase old byte = not (eqb (bitAnd old byte) byte)
-
 abbrev pub peek-no : Meaning → ℕ → Option Cause
 peek-no m a =
     cond (outside m a) (Some AddressOutside)
@@ -65,10 +63,6 @@ begin-no m b =
     cond (leb (count m) b) (Some NoSuchBlock)
     (cond (stands (m .erasure)) (Some ErasureInTheWay)
     (cond (guarded m b) (Some Guarded) None))
-
--- at most this many microseconds may pass in one call
-abbrev pub longest : ℕ
-longest = 1000000000
 
 abbrev pub pass-no : ℕ → Option Cause
 pass-no n = cond (leb n longest) None (Some TimeTooLong)
