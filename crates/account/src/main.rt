@@ -1,4 +1,6 @@
 // A day at the bench: what a technician does with one chip, by bus cycles and time alone, and what is seen of it.
+#![tactic(auto)]
+
 mod bus;
 mod errand;
 mod steps;

@@ -1,4 +1,6 @@
 // The array: equal blocks in plain memory, as a part.
+#![tactic(auto)]
+
 mod array;
 mod calls;
 mod making;

@@ -1,5 +1,7 @@
 // Pages and books: which bytes they are, how they are read, and how they are written. A book is one block of a part that holds
 // registrations; it has a page of 64 bytes for its head and one for each position.
+#![tactic(auto)]
+
 mod book;
 mod books;
 mod copy;

@@ -1,4 +1,6 @@
 // A NOR flash chip as its bus sees it: write and read cycles, time, and the reset pin.
+#![tactic(auto)]
+
 mod blocks;
 mod chip;
 mod commands;

@@ -1,4 +1,6 @@
 // The console: the calls by which an organist stores registrations and steps through them, over any part.
+#![tactic(auto)]
+
 mod answers;
 mod call;
 mod check;

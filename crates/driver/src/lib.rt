@@ -1,4 +1,6 @@
 // The driver: a chip of any geometry as a part, by bus cycles and time alone.
+#![tactic(auto)]
+
 mod bus;
 mod calls;
 mod driven;

@@ -1,4 +1,6 @@
 // The worked examples of the command machine, run on a chip and compared with what they should give.
+#![tactic(auto)]
+
 mod cycle;
 mod table;
 

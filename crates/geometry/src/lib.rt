@@ -1,4 +1,6 @@
 // The geometries: how large each chip is, and where its blocks lie.
+#![tactic(auto)]
+
 mod kinds;
 mod tables;
 mod walk;

@@ -1,4 +1,6 @@
 // The joined part: any two parts end to end, again a part, so that parts can be piled to any depth.
+#![tactic(auto)]
+
 mod calls;
 mod joined;
 mod sides;

@@ -1,4 +1,6 @@
 // Two consoles side by side.
+#![tactic(auto)]
+
 mod line;
 
 pub use line::Line;

@@ -1,4 +1,6 @@
 // What the programs of the workbench share.
+#![tactic(auto)]
+
 mod blank;
 mod trouble;
 
