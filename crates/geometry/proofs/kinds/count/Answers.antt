@@ -4,7 +4,7 @@ use Rattle.geometry.proofs.kinds.count.Goals as goal
 
 pub returns : goal.returns
 returns c = record {
-  value = c.table-length.ensures;
+  value = c.table_length.ensures;
   bound = omega (arith, every_few c.args.kind);
   law = every_laid_out;
 }

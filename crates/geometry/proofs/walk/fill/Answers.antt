@@ -20,7 +20,7 @@ loop-block-preserved g c k h =
       | then-mask-block-eq1 w ↦
           let s : w.start.result ≡ start_of plan.sizes b =
           omega (arith, table_start 0 plan.starts plan.sizes plan.size g.met.G.Geometry.contiguous b l) in
-          let set = rw (s, w.width.ensures) at (w.fill-range.ensures k (omega arith)) in
+          let set = rw (s, w.width.ensures) at (w.fill_range.ensures k (omega arith)) in
           rw w.cells-is
           (filled_more plan.sizes c.args.mask c.args.byte b k _ _ _ l (eq-eqb _ _ w.if-mask-block-eq1.true) (c.loop-block.invariant k h) set)
       | else-mask-block-eq1 w ↦

@@ -8,25 +8,25 @@ use Rattle.chip.specs.Making.{checked, made}
 use Rattle.chip.proofs.MakingLaws.{checked_ok, checked_err, made_fit}
 use Rattle.workbench.proofs.blank.blank_chip.Goals as goal
 
-pub returns-in-err-check : goal.returns-in-err-check
-returns-in-err-check c =
+pub returns-in_err-check : goal.returns-in_err-check
+returns-in_err-check c =
     let s = c.args.setup in
     let n = (plan_of s.kind).size in
-    let len : length c.as-slice.result.now ≡ n =
-    ap length (c.as-slice.ensures.value ∙ c.in-ok-memory.ensures.items-if-clones-equal (λ y e. e)) ∙ length-replicate _ 255 ∙ c.size-size.ensures in
-    let refused : checked s n ≡ Err c.in-err-check.field-0.0 =
-    ap (checked s) (sym len) ∙ sym c.check.ensures ∙ c.in-err-check.was in
-    let why = checked_err s n c.in-err-check.field-0.0 refused in
-    let p = err_from_is_err_and c.from-residual-in-err-check.result c.from-residual-in-err-check.ensures.1 in
+    let len : length c.as_slice.result.now ≡ n =
+    ap length (c.as_slice.ensures.value ∙ c.in_ok-memory.ensures.items-if-clones-equal (λ y e. e)) ∙ length-replicate _ 255 ∙ c.size-size.ensures in
+    let refused : checked s n ≡ Err c.in_err-check.field-0.0 =
+    ap (checked s) (sym len) ∙ sym c.check.ensures ∙ c.in_err-check.was in
+    let why = checked_err s n c.in_err-check.field-0.0 refused in
+    let p = err_from_is_err_and c.from_residual-in_err-check.result c.from_residual-in_err-check.ensures.1 in
     rw (p.1, p.2) (λ fits. both_ways _ why.0 fits, why.1)
 
 pub returns : goal.returns
 returns c =
     let s = c.args.setup in
     let n = (plan_of s.kind).size in
-    let items : vec_items c.in-ok-memory.memory ≡ replicate n 0xFF =
-    c.in-ok-memory.ensures.items-if-clones-equal (λ y e. e) ∙ ap (λ (k : ℕ). replicate k 0xFF) c.size-size.ensures in
-    let len : length c.as-slice.result.now ≡ n = ap length (c.as-slice.ensures.value ∙ items) ∙ length-replicate n 255 in
-    let fits : fit s n ≡ true = checked_ok s n (ap (checked s) (sym len) ∙ sym c.check.ensures ∙ c.in-ok-check.was) in
+    let items : vec_items c.in_ok-memory.memory ≡ replicate n 0xFF =
+    c.in_ok-memory.ensures.items-if-clones-equal (λ y e. e) ∙ ap (λ (k : ℕ). replicate k 0xFF) c.size-size.ensures in
+    let len : length c.as_slice.result.now ≡ n = ap length (c.as_slice.ensures.value ∙ items) ∙ length-replicate n 255 in
+    let fits : fit s n ≡ true = checked_ok s n (ap (checked s) (sym len) ∙ sym c.check.ensures ∙ c.in_ok-check.was) in
     let same : length (replicate {A = ℕ} n 0xFF) ≡ n = length-replicate n 255 in
     (fits, c.new.ensures.chip ∙ ap (made s) items ∙ made_fit s (replicate n 0xFF) (ap (fit s) same ∙ fits))

@@ -11,5 +11,5 @@ stand-requires c =
     let s = c.args.self.now in
     let b = c.args.block in
     let no : begin_no (means s) b ≡ None =
-    sym c.begin_no.ensures ∙ answer_ok c.begin_no.result b _ _ (sym c.granted.ensures ∙ c.in-ok-granted.was) in
+    sym c.begin_no.ensures ∙ answer_ok c.begin_no.result b _ _ (sym c.granted.ensures ∙ c.in_ok-granted.was) in
     lt-ltb b s.count (omega (arith, (erasable (means s) b no).within, length-replicate s.count s.width))

@@ -4,8 +4,8 @@ use Rattle.chip.specs.Times.{due, steps}
 use Rattle.chip.proofs.Passing.{still, until, over, steps_none, steps_split, due_positive}
 use Rattle.chip.proofs.chip.Chip.advance.Goals as goal
 
-pub returns-in-default : goal.returns-in-default
-returns-in-default c =
+pub returns-in_default : goal.returns-in_default
+returns-in_default c =
     let f = view c.args.self.now in
     let e : due f.state ≡ None = cc in
     record { same = still c.args.n f e ∙ sym (steps_none f); less = λ h. h }

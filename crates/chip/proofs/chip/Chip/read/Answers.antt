@@ -3,9 +3,9 @@ use Rattle.chip.specs.Reads.{answered, seen}
 use Rattle.chip.proofs.WriteLaws.{read_laws}
 use Rattle.chip.proofs.chip.Chip.read.Goals as goal
 
-pub returns-in-err-inside : goal.returns-in-err-inside
+pub returns-in_err-inside : goal.returns-in_err-inside
 unfolding answered seen
-returns-in-err-inside c = record { answer = search rules; chip = search rules; laws = read_laws }
+returns-in_err-inside c = record { answer = search rules; chip = search rules; laws = read_laws }
 
 pub returns : goal.returns
 unfolding answered seen

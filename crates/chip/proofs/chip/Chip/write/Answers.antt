@@ -3,9 +3,9 @@ use Rattle.chip.specs.Writes.{heard, written}
 use Rattle.chip.proofs.WriteLaws.{write_laws}
 use Rattle.chip.proofs.chip.Chip.write.Goals as goal
 
-pub returns-in-err-inside : goal.returns-in-err-inside
+pub returns-in_err-inside : goal.returns-in_err-inside
 unfolding heard written
-returns-in-err-inside c = record { answer = search rules; chip = search rules; laws = write_laws }
+returns-in_err-inside c = record { answer = search rules; chip = search rules; laws = write_laws }
 
 pub returns : goal.returns
 unfolding heard written

@@ -13,8 +13,8 @@ program-requires c =
       clear = burn_clear (view s.chip) s.standing (all_sound s.chip) s.follows c.args.address c.args.byte c.requires;
     }
 
-pub invariant-of-self : goal.invariant-of-self
-invariant-of-self c =
+pub invariant_of-self : goal.invariant_of-self
+invariant_of-self c =
     let s = c.args.self.now in
     let f = view s.chip in
     let g = view c.program.new.chip in (

@@ -10,37 +10,37 @@ use Rattle.driver.proofs.Reading.{Knows}
 use Rattle.driver.proofs.Elapsing.{too_long, refused_answer, granted_answer, short_enough, no_time, looks}
 use Rattle.driver.proofs.driven.Driven.pass_running.Goals as goal
 
-pub invariant-of-self : goal.invariant-of-self
-invariant-of-self c =
+pub invariant_of-self : goal.invariant_of-self
+invariant_of-self c =
     let s = c.args.self.now in
     let f = view s.chip in
-    let x = too_long c.args.n c.in-err-pass.field-0.0 (sym c.pass.ensures.answer ∙ c.in-err-pass.was) in
+    let x = too_long c.args.n c.in_err-pass.field-0.0 (sym c.pass.ensures.answer ∙ c.in_err-pass.was) in
     let e : view c.pass.new.self ≡ f = c.pass.ensures.chip ∙ no_time c.args.n f x.0 in
     (subst (Knows s.guards) (sym (ap (λ (y : Flash). y.setup) e)) s.knows, (ap (λ (y : Flash). tied y s.standing) e ∙ s.follows, tt))
 
-pub returns-in-err-pass : goal.returns-in-err-pass
-returns-in-err-pass c =
+pub returns-in_err-pass : goal.returns-in_err-pass
+returns-in_err-pass c =
     let s = c.args.self.now in
     let f = view s.chip in
     let n = c.args.n in
-    let x = too_long n c.in-err-pass.field-0.0 (sym c.pass.ensures.answer ∙ c.in-err-pass.was) in
+    let x = too_long n c.in_err-pass.field-0.0 (sym c.pass.ensures.answer ∙ c.in_err-pass.was) in
     let e : view c.pass.new.self ≡ f = c.pass.ensures.chip ∙ no_time n f x.0 in
-    let p = err_from_is_err_and c.from-residual.result c.from-residual.ensures.1 in
+    let p = err_from_is_err_and c.from_residual.result c.from_residual.ensures.1 in
     record {
       answer = p.1 ∙ ap Err (p.2 ∙ x.1) ∙ sym (refused_answer n _ x.0);
       passed = ap (λ (y : Flash). meaning y s.standing) e ∙ sym (cond-false _ _ _ x.0);
     }
 
-pub invariant-of-self-2 : goal.invariant-of-self-2
-invariant-of-self-2 c =
+pub invariant_of-self-2 : goal.invariant_of-self-2
+invariant_of-self-2 c =
     let s = c.args.self.now in
     let n = c.args.n in
-    let short = short_enough n (sym c.pass.ensures.answer ∙ c.in-ok-pass.was) in
-    let l = looks (view s.chip) s.standing c.args.block n c.start-of-at.result (view c.pass.new.self) (view c.look_verdict.new.chip)
-    c.look_verdict.result (all_sound s.chip) s.follows c.requires short c.start-of-at.ensures c.pass.ensures.chip
+    let short = short_enough n (sym c.pass.ensures.answer ∙ c.in_ok-pass.was) in
+    let l = looks (view s.chip) s.standing c.args.block n c.start_of-at.result (view c.pass.new.self) (view c.look_verdict.new.chip)
+    c.look_verdict.result (all_sound s.chip) s.follows c.requires short c.start_of-at.ensures c.pass.ensures.chip
     c.look_verdict.ensures.verdict c.look_verdict.ensures.chip in (
       subst (Knows s.guards) (sym l.same_setup) s.knows,
-      (ap (tied (view c.look_verdict.new.chip)) c.stands-after-self.ensures ∙ l.ties, tt),
+      (ap (tied (view c.look_verdict.new.chip)) c.stands_after-self.ensures ∙ l.ties, tt),
     )
 
 pub returns : goal.returns
@@ -48,15 +48,15 @@ returns c =
     let s = c.args.self.now in
     let f = view s.chip in
     let n = c.args.n in
-    let short = short_enough n (sym c.pass.ensures.answer ∙ c.in-ok-pass.was) in
-    let l = looks f s.standing c.args.block n c.start-of-at.result (view c.pass.new.self) (view c.look_verdict.new.chip)
-    c.look_verdict.result (all_sound s.chip) s.follows c.requires short c.start-of-at.ensures c.pass.ensures.chip
+    let short = short_enough n (sym c.pass.ensures.answer ∙ c.in_ok-pass.was) in
+    let l = looks f s.standing c.args.block n c.start_of-at.result (view c.pass.new.self) (view c.look_verdict.new.chip)
+    c.look_verdict.result (all_sound s.chip) s.follows c.requires short c.start_of-at.ensures c.pass.ensures.chip
     c.look_verdict.ensures.verdict c.look_verdict.ensures.chip in
     record {
       answer =
           ap Ok (c.progress_of.ensures ∙ sym l.tells ∙ ap (λ (t : Standing). progress (meaning f t) n (erasure_in f t)) (sym c.requires))
           ∙ sym (granted_answer n _ short);
       passed =
-          ap (meaning (view c.look_verdict.new.chip)) c.stands-after-self.ensures ∙ l.means
+          ap (meaning (view c.look_verdict.new.chip)) c.stands_after-self.ensures ∙ l.means
           ∙ ap (λ (t : Standing). passed (meaning f t) n) (sym c.requires) ∙ sym (cond-true _ _ _ short);
     }

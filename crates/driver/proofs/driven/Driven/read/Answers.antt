@@ -8,8 +8,8 @@ use Rattle.driver.specs.Tying.{seen_same}
 use Rattle.driver.proofs.Reading.{Knows, seen_setup, read_ok, read_err}
 use Rattle.driver.proofs.driven.Driven.read.Goals as goal
 
-pub invariant-of-self : goal.invariant-of-self
-invariant-of-self c =
+pub invariant_of-self : goal.invariant_of-self
+invariant_of-self c =
     let s = c.args.self.now in
     let f = view s.chip in
     let a = c.args.address in
@@ -18,15 +18,15 @@ invariant-of-self c =
       (ap (λ (x : Flash). tied x s.standing) e ∙ (seen_same f s.standing a).0 ∙ s.follows, tt),
     )
 
-pub returns-in-err-byte : goal.returns-in-err-byte
-returns-in-err-byte c =
+pub returns-in_err-byte : goal.returns-in_err-byte
+returns-in_err-byte c =
     let s = c.args.self.now in
     let f = view s.chip in
     let a = c.args.address in
-    let p = err_from_is_err_and c.from-residual.result c.from-residual.ensures.1 in
-    let was : answered f a ≡ Err c.in-err-byte.field-0.0 = sym c.read.ensures.answer ∙ c.in-err-byte.was in
+    let p = err_from_is_err_and c.from_residual.result c.from_residual.ensures.1 in
+    let was : answered f a ≡ Err c.in_err-byte.field-0.0 = sym c.read.ensures.answer ∙ c.in_err-byte.was in
     record {
-      answer = rw (p.1, p.2) (read_err f s.standing (all_sound s.chip) s.follows a c.in-err-byte.field-0.0 was);
+      answer = rw (p.1, p.2) (read_err f s.standing (all_sound s.chip) s.follows a c.in_err-byte.field-0.0 was);
       same = ap (λ (x : Flash). meaning x s.standing) c.read.ensures.chip ∙ (seen_same f s.standing a).1;
     }
 
@@ -35,8 +35,8 @@ returns c =
     let s = c.args.self.now in
     let f = view s.chip in
     let a = c.args.address in
-    let was : answered f a ≡ Ok c.in-ok-byte.byte = sym c.read.ensures.answer ∙ c.in-ok-byte.was in
+    let was : answered f a ≡ Ok c.in_ok-byte.byte = sym c.read.ensures.answer ∙ c.in_ok-byte.was in
     record {
-      answer = read_ok f s.standing (all_sound s.chip) s.follows a c.in-ok-byte.byte was;
+      answer = read_ok f s.standing (all_sound s.chip) s.follows a c.in_ok-byte.byte was;
       same = ap (λ (x : Flash). meaning x s.standing) c.read.ensures.chip ∙ (seen_same f s.standing a).1;
     }

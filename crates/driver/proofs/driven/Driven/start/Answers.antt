@@ -14,14 +14,14 @@ erase-requires c =
     let f = view s.chip in
     record {
       ready = begin_ready f s.standing (all_sound s.chip) s.follows c.args.block c.requires;
-      inside = ap (λ (a : ℕ). inside f a) c.start-of-at.ensures ∙ begin_inside f s.standing (all_sound s.chip) s.follows c.args.block c.requires;
+      inside = ap (λ (a : ℕ). inside f a) c.start_of-at.ensures ∙ begin_inside f s.standing (all_sound s.chip) s.follows c.args.block c.requires;
     }
 
-pub invariant-of-self : goal.invariant-of-self
-invariant-of-self c =
+pub invariant_of-self : goal.invariant_of-self
+invariant_of-self c =
     let s = c.args.self.now in
     let f = view s.chip in
-    let e = c.erase.ensures ∙ ap (λ (a : ℕ). with_state f (Erasing (record { phase = Window; selected = block_mask f a; left = 50; toggle = false }))) c.start-of-at.ensures in (
+    let e = c.erase.ensures ∙ ap (λ (a : ℕ). with_state f (Erasing (record { phase = Window; selected = block_mask f a; left = 50; toggle = false }))) c.start_of-at.ensures in (
       subst (Knows s.guards) (sym (ap (λ (x : Flash). x.setup) e)) s.knows,
       (begin_tied f s.standing (all_sound s.chip) s.follows c.args.block c.requires (view c.erase.new.chip) e, tt),
     )
@@ -30,5 +30,5 @@ pub returns : goal.returns
 returns c =
     let s = c.args.self.now in
     let f = view s.chip in
-    let e = c.erase.ensures ∙ ap (λ (a : ℕ). with_state f (Erasing (record { phase = Window; selected = block_mask f a; left = 50; toggle = false }))) c.start-of-at.ensures in
+    let e = c.erase.ensures ∙ ap (λ (a : ℕ). with_state f (Erasing (record { phase = Window; selected = block_mask f a; left = 50; toggle = false }))) c.start_of-at.ensures in
     begin_means f s.standing (all_sound s.chip) s.follows c.args.block c.requires (view c.erase.new.chip) e
