@@ -17,10 +17,11 @@ pub invariant_of-self : goal.invariant_of-self
 invariant_of-self c =
     let s = c.args.self.now in
     let f = view s.chip in
-    let g = view c.program.new.chip in (
-      subst (Knows s.guards) (sym (burn_setup f s.standing (all_sound s.chip) s.follows c.args.address c.args.byte c.requires g c.program.ensures.chip)) s.knows,
-      (burn_tied f s.standing (all_sound s.chip) s.follows c.args.address c.args.byte c.requires g c.program.ensures.chip, tt),
-    )
+    let g = view c.program.new.chip in
+    record {
+      knows = subst (Knows s.guards) (sym (burn_setup f s.standing (all_sound s.chip) s.follows c.args.address c.args.byte c.requires g c.program.ensures.chip)) s.knows;
+      follows = burn_tied f s.standing (all_sound s.chip) s.follows c.args.address c.args.byte c.requires g c.program.ensures.chip;
+    }
 
 pub returns : goal.returns
 returns c =

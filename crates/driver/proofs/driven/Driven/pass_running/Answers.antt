@@ -16,7 +16,10 @@ invariant_of-self c =
     let f = view s.chip in
     let x = too_long c.args.n c.in_err-pass.field-0.0 (sym c.pass.ensures.answer ∙ c.in_err-pass.was) in
     let e : view c.pass.new.self ≡ f = c.pass.ensures.chip ∙ no_time c.args.n f x.0 in
-    (subst (Knows s.guards) (sym (ap (λ (y : Flash). y.setup) e)) s.knows, (ap (λ (y : Flash). tied y s.standing) e ∙ s.follows, tt))
+    record {
+      knows = subst (Knows s.guards) (sym (ap (λ (y : Flash). y.setup) e)) s.knows;
+      follows = ap (λ (y : Flash). tied y s.standing) e ∙ s.follows;
+    }
 
 pub returns-in_err-pass : goal.returns-in_err-pass
 returns-in_err-pass c =
@@ -36,12 +39,13 @@ invariant_of-self-2 c =
     let s = c.args.self.now in
     let n = c.args.n in
     let short = short_enough n (sym c.pass.ensures.answer ∙ c.in_ok-pass.was) in
-    let l = looks (view s.chip) s.standing c.args.block n c.start_of-at.result (view c.pass.new.self) (view c.look_verdict.new.chip)
-    c.look_verdict.result (all_sound s.chip) s.follows c.requires short c.start_of-at.ensures c.pass.ensures.chip
-    c.look_verdict.ensures.verdict c.look_verdict.ensures.chip in (
-      subst (Knows s.guards) (sym l.same_setup) s.knows,
-      (ap (tied (view c.look_verdict.new.chip)) c.stands_after-self.ensures ∙ l.ties, tt),
-    )
+    let l = looks (view s.chip) s.standing c.args.block n c.start_of-at.result (view c.pass.new.self) (view c.look-verdict.new.chip)
+    c.look-verdict.result (all_sound s.chip) s.follows c.requires short c.start_of-at.ensures c.pass.ensures.chip
+    c.look-verdict.ensures.verdict c.look-verdict.ensures.chip in
+    record {
+      knows = subst (Knows s.guards) (sym l.same_setup) s.knows;
+      follows = ap (tied (view c.look-verdict.new.chip)) c.stands_after-self.ensures ∙ l.ties;
+    }
 
 pub returns : goal.returns
 returns c =
@@ -49,14 +53,14 @@ returns c =
     let f = view s.chip in
     let n = c.args.n in
     let short = short_enough n (sym c.pass.ensures.answer ∙ c.in_ok-pass.was) in
-    let l = looks f s.standing c.args.block n c.start_of-at.result (view c.pass.new.self) (view c.look_verdict.new.chip)
-    c.look_verdict.result (all_sound s.chip) s.follows c.requires short c.start_of-at.ensures c.pass.ensures.chip
-    c.look_verdict.ensures.verdict c.look_verdict.ensures.chip in
+    let l = looks f s.standing c.args.block n c.start_of-at.result (view c.pass.new.self) (view c.look-verdict.new.chip)
+    c.look-verdict.result (all_sound s.chip) s.follows c.requires short c.start_of-at.ensures c.pass.ensures.chip
+    c.look-verdict.ensures.verdict c.look-verdict.ensures.chip in
     record {
       answer =
           ap Ok (c.progress_of.ensures ∙ sym l.tells ∙ ap (λ (t : Standing). progress (meaning f t) n (erasure_in f t)) (sym c.requires))
           ∙ sym (granted_answer n _ short);
       passed =
-          ap (meaning (view c.look_verdict.new.chip)) c.stands_after-self.ensures ∙ l.means
+          ap (meaning (view c.look-verdict.new.chip)) c.stands_after-self.ensures ∙ l.means
           ∙ ap (λ (t : Standing). passed (meaning f t) n) (sym c.requires) ∙ sym (cond-true _ _ _ short);
     }

@@ -10,7 +10,7 @@ pub invariant_of-self : goal.invariant_of-self
 invariant_of-self c =
     let s = c.args.self.now in
     let w = waited_still c.args.n (view s.chip) (view c.pass.new.self) s.standing (all_sound s.chip) s.follows c.requires c.pass.ensures.chip in
-    (subst (Knows s.guards) (sym w.same_setup) s.knows, (w.ties, tt))
+    record { knows = subst (Knows s.guards) (sym w.same_setup) s.knows; follows = w.ties }
 
 pub returns-in_err-pass : goal.returns-in_err-pass
 returns-in_err-pass c =

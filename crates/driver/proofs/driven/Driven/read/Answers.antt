@@ -13,10 +13,11 @@ invariant_of-self c =
     let s = c.args.self.now in
     let f = view s.chip in
     let a = c.args.address in
-    let e = c.read.ensures.chip in (
-      subst (Knows s.guards) (sym (ap (λ (x : Flash). x.setup) e ∙ seen_setup f a)) s.knows,
-      (ap (λ (x : Flash). tied x s.standing) e ∙ (seen_same f s.standing a).0 ∙ s.follows, tt),
-    )
+    let e = c.read.ensures.chip in
+    record {
+      knows = subst (Knows s.guards) (sym (ap (λ (x : Flash). x.setup) e ∙ seen_setup f a)) s.knows;
+      follows = ap (λ (x : Flash). tied x s.standing) e ∙ (seen_same f s.standing a).0 ∙ s.follows;
+    }
 
 pub returns-in_err-byte : goal.returns-in_err-byte
 returns-in_err-byte c =

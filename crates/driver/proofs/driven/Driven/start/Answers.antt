@@ -21,10 +21,11 @@ pub invariant_of-self : goal.invariant_of-self
 invariant_of-self c =
     let s = c.args.self.now in
     let f = view s.chip in
-    let e = c.erase.ensures ∙ ap (λ (a : ℕ). with_state f (Erasing (record { phase = Window; selected = block_mask f a; left = 50; toggle = false }))) c.start_of-at.ensures in (
-      subst (Knows s.guards) (sym (ap (λ (x : Flash). x.setup) e)) s.knows,
-      (begin_tied f s.standing (all_sound s.chip) s.follows c.args.block c.requires (view c.erase.new.chip) e, tt),
-    )
+    let e = c.erase.ensures ∙ ap (λ (a : ℕ). with_state f (Erasing (record { phase = Window; selected = block_mask f a; left = 50; toggle = false }))) c.start_of-at.ensures in
+    record {
+      knows = subst (Knows s.guards) (sym (ap (λ (x : Flash). x.setup) e)) s.knows;
+      follows = begin_tied f s.standing (all_sound s.chip) s.follows c.args.block c.requires (view c.erase.new.chip) e;
+    }
 
 pub returns : goal.returns
 returns c =
