@@ -7,7 +7,7 @@ use std::alloc::AllocError;
 use std::io;
 
 // What can stop a program of the workbench.
-#[derive(Drop)]
+#[derive(Debug, Drop)]
 pub enum Trouble {
     // The chip refused a call.
     Chip(ChipFault),

@@ -13,7 +13,7 @@ returns-in_err-check c =
     let s = c.args.setup in
     let n = (plan_of s.kind).size in
     let len : length c.as_slice.result.now ≡ n =
-    ap length (c.as_slice.ensures.value ∙ c.in_ok-memory.ensures.items-if-clones-equal (λ y e. e)) ∙ length-replicate _ 255 ∙ c.size-size.ensures in
+    ap length (c.as_slice.ensures.value ∙ c.in_ok-memory.ensures.items_if_clones_equal (λ y e. e)) ∙ length-replicate _ 255 ∙ c.size-size.ensures in
     let refused : checked s n ≡ Err c.in_err-check.field-0.0 =
     ap (checked s) (sym len) ∙ sym c.check.ensures ∙ c.in_err-check.was in
     let why = checked_err s n c.in_err-check.field-0.0 refused in
@@ -25,7 +25,7 @@ returns c =
     let s = c.args.setup in
     let n = (plan_of s.kind).size in
     let items : vec_items c.in_ok-memory.memory ≡ replicate n 0xFF =
-    c.in_ok-memory.ensures.items-if-clones-equal (λ y e. e) ∙ ap (λ (k : ℕ). replicate k 0xFF) c.size-size.ensures in
+    c.in_ok-memory.ensures.items_if_clones_equal (λ y e. e) ∙ ap (λ (k : ℕ). replicate k 0xFF) c.size-size.ensures in
     let len : length c.as_slice.result.now ≡ n = ap length (c.as_slice.ensures.value ∙ items) ∙ length-replicate n 255 in
     let fits : fit s n ≡ true = checked_ok s n (ap (checked s) (sym len) ∙ sym c.check.ensures ∙ c.in_ok-check.was) in
     let same : length (replicate {A = ℕ} n 0xFF) ≡ n = length-replicate n 255 in
