@@ -1,5 +1,5 @@
 -- The laws on cells: protected and worn blocks keep theirs, and only an erase brings a 1 back.
-use Rattle.std.proofs.Common.{◌≡◌, ℕ, zero, suc, ◌/◌, ◌%◌, ◌^◌, ◌<◌, Bool, true, false, cond, not, ◌&&◌, ◌||◌, eqb, ltb, leb, List, length, get_or, Some, None, Option, sym, refl, ap, ◌∙◌, subst, inl, inr, arith}
+use Rattle.std.proofs.Common.{◌≡◌, ℕ, zero, suc, ◌/◌, ◌%◌, ◌^◌, ◌<◌, Bool, true, false, cond, ◌&&◌, ◌||◌, eqb, ltb, leb, List, length, get_or, Some, None, Option, sym, refl, ap, ◌∙◌, subst, inl, inr, arith}
 use native.Mathlib.Nat.{zero-div}
 use lib.Bits.{bit_and, bit_xor}
 use Rattle.std.proofs.lemmas.List.{length-set, get_or-set_same, get_or-set_other, set_past}
@@ -16,7 +16,7 @@ use Rattle.chip.specs.declared.state.State.{State}
 use Rattle.chip.specs.declared.state.State.TheVariants.{Ready, Programming, Erasing, Suspending, Suspended, Failed}
 use Rattle.chip.specs.Flash.{Flash, blocks, inside, cell, protected, worn, without, erasable}
 use Rattle.chip.specs.Writes.{needs_erase}
-use Rattle.chip.specs.Times.{burnt, programmed, spoils, erased, ended, due, lowered, step_by, step, tick, passed}
+use Rattle.chip.specs.Times.{burnt, programmed, spoils, erased, ended, due, lowered, step_by, tick, passed}
 use Rattle.chip.specs.Resets.{broken_erase, broken, after_reset}
 use Rattle.chip.specs.Laws.{Sound, KeepsBlocks, OnlyClears, in_erase}
 

@@ -1,5 +1,5 @@
 -- A chip as its bus sees it, and what its blocks are.
-use Rattle.std.specs.Prelude.{ℕ, Bool, not, List, vec_items, bit_and, bit_xor, nat_lt, slice_index}
+use Rattle.std.specs.Prelude.{ℕ, Bool, List, vec_items, bit_and, bit_xor, nat_lt, slice_index}
 use Rattle.geometry.specs.Blocks.{bit, block_of}
 use Rattle.geometry.specs.Plans.{plan_of}
 use Rattle.chip.specs.declared.setup.Setup.{Setup}

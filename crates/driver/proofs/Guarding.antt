@@ -12,7 +12,7 @@ use Rattle.chip.specs.declared.state.Mode.TheVariants.{Read, Id}
 use Rattle.chip.specs.declared.state.Place.TheVariants.{Start}
 use Rattle.chip.specs.declared.state.State.{State}
 use Rattle.chip.specs.declared.state.State.TheVariants.{Ready}
-use Rattle.chip.specs.Flash.{Flash, with_state, blocks, size, inside, protected}
+use Rattle.chip.specs.Flash.{Flash, with_state, blocks, size, inside}
 use Rattle.chip.specs.Writes.{read_mode, written}
 use Rattle.chip.specs.Reads.{identity, shown, answered}
 use Rattle.chip.proofs.WriteLaws.{write_laws}

@@ -9,7 +9,7 @@ use Rattle.geometry.specs.Blocks.{start_of}
 use Rattle.part.specs.declared.answers.Standing.{Standing}
 use Rattle.part.specs.declared.answers.Shape.{Shape}
 use Rattle.part.specs.Meaning.{Erasure, Meaning, Lawful, ErasureLawful, size, count, standing_of, shape_of}
-use Rattle.part.specs.Calls.{stands, block_at}
+use Rattle.part.specs.Calls.{block_at}
 use Rattle.joined.specs.Pile.{raised, either, pile, no_part, fits, joined, stood, either_stands, later, LaterRoom}
 use Rattle.joined.specs.Refusing.{stood_is}
 use Rattle.joined.specs.Rows.{total_both, start_left, start_right, start_most}

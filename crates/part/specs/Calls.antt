@@ -1,6 +1,6 @@
 -- The calls of a part: for each input the answer or the refusal, and the whole meaning afterwards. What a call does not name
 -- stays. Free are only the microseconds, inside their limits.
-use Rattle.std.specs.Prelude.{◌≡◌, ℕ, ◌-◌, ◌≤◌, Bool, true, false, cond, not, ◌||◌, List, Some, None, Ok, Err, Option, Result, ◌==◌, nat_le, nat_lt, slice_index, slice_set}
+use Rattle.std.specs.Prelude.{◌≡◌, ℕ, ◌-◌, ◌≤◌, Bool, true, false, cond, ◌||◌, List, Some, None, Ok, Err, Option, Result, ◌==◌, nat_le, nat_lt, slice_index, slice_set}
 use Rattle.refusal.specs.declared.Cause.{Cause}
 use Rattle.refusal.specs.declared.Cause.TheVariants.{AddressOutside, NoSuchBlock, TimeTooLong, ErasureInTheWay, Guarded, NeedsErase, Worn}
 use Rattle.refusal.specs.Numbers.{number_of}

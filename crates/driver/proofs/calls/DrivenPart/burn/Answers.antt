@@ -3,7 +3,6 @@ use Rattle.std.proofs.lemmas.Result.{err_from_is_err_and}
 use Rattle.refusal.specs.declared.Cause.TheVariants.{AddressOutside, Worn}
 use Rattle.part.specs.declared.fault.PartFault.{PartFault}
 use Rattle.part.specs.Meaning.{Meaning}
-use Rattle.part.specs.Calls.{answer}
 use Rattle.part.proofs.Granting.{answer_ok, answer_err}
 use Rattle.driver.specs.Means.{means}
 use Rattle.driver.specs.Steps.{Read, burn_why, Programmed}
