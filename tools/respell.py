@@ -11,7 +11,7 @@ a name between backquotes is turned where the sources have it in the new spellin
 import glob
 import re
 
-WORD = re.compile(r"(?<![\w'·-])[^\W\d][\w']*(?:-[\w']+)+(?![\w'-])")
+WORD = re.compile(r"(?<![\w'·-])[^\W\d][\w']*(?:-[\w']+)*(?![\w'-])")
 GOALS = ("/Answers.antt", "/Invariants.antt")
 MARKS = r"(?:(?:abbrev|unfoldable|pub|data|record|axiom)\s+)*"
 FORMS = [
@@ -24,7 +24,7 @@ FORMS = [
 
 
 def own_names(paths):
-    """The names with a dash that these files define; a goal's name, which only files of answers define, is none of them."""
+    """The names that these files define and that want another spelling; a goal's name, which only files of answers define, is none of them."""
     names = set()
     for path in paths:
         with open(path, encoding="utf-8") as f:
@@ -33,7 +33,7 @@ def own_names(paths):
                     for name in form.findall(line):
                         if not (path.endswith(GOALS) and form is FORMS[0]):
                             names.add(name)
-    return {n for n in names if WORD.fullmatch(n)}
+    return {n for n in names if WORD.fullmatch(n) and spelled(n) != n and not n.isupper()}
 
 
 # A name whose new spelling a library has.
@@ -44,8 +44,8 @@ def spelled(name):
     if name in OTHERWISE:
         return OTHERWISE[name]
     if name[0].isupper():
-        first, *rest = name.split("-")
-        return first + "".join(part[0].upper() + part[1:] for part in rest)
+        first, *rest = re.split("[-_]", name)
+        return first + "".join(part[:1].upper() + part[1:] for part in rest)
     return name.replace("getD-", "get_or_").replace("-", "_")
 
 
@@ -89,7 +89,7 @@ def main():
     for path in antt:
         with open(path, encoding="utf-8") as f:
             words |= set(re.findall(r"[^\W\d][\w'-]*", f.read()))
-    known = lambda m: spelled(m[0]) if spelled(m[0]) in words else m[0]
+    known = lambda m: spelled(m[0]) if "-" in m[0] and spelled(m[0]) in words else m[0]
     for path in sorted(["README.md"] + glob.glob("docs/*.md")):
         rewrite(path, lambda t: re.sub(r"`[^`\n]*`", lambda m: WORD.sub(known, m[0]), t))
     print("%d names" % len(names))

@@ -3,7 +3,7 @@ use Rattle.std.proofs.Common.{◌≡◌, ℕ, zero, suc, ◌+◌, ◌-◌, ◌<�
 use Rattle.std.proofs.lemmas.List.{drop_more, drop_all}
 use Rattle.std.proofs.lemmas.Bool.{lt-ltb, le-ltb, cases_lt, and_parts, eqb-true, false≢true, cond_both, cases_eq, cases_Bool, eq-eqb, ne_eqb, le-leb, leb-true, ltb-true}
 use Rattle.geometry.specs.Blocks.{total, start_of, block_of}
-use Rattle.geometry.specs.Plans.{Plan, top, bottom, bench, dead, plan_of, contiguous, Contiguous, Laid_out}
+use Rattle.geometry.specs.Plans.{Plan, top, bottom, bench, dead, plan_of, contiguous, Contiguous, LaidOut}
 
 -- Block b reaches from its start to its end, and holds no other address.
 pub block_is : (sizes : List ℕ) (k b : ℕ) → b < length sizes → start_of sizes b ≤ k → k < start_of sizes b + get_or sizes b 0
@@ -75,7 +75,7 @@ start_end (w ∷ ws) zero e = omega (arith, none ws (omega arith))
 start_end (w ∷ ws) (suc b) e = omega (arith, start_end ws b (omega arith))
 
 -- What the test over a whole table means.
-pub laid_out : (p : Plan) → Contiguous p → Laid_out p
+pub laid_out : (p : Plan) → Contiguous p → LaidOut p
 laid_out p t =
     let at : (b : ℕ) → b < length p.sizes → get_or p.starts b 0 ≡ start_of p.sizes b = λ b l. omega (arith, table_start 0 p.starts p.sizes p.size t b l) in
     let end : total p.sizes ≡ p.size = omega (arith, table_end 0 p.starts p.sizes p.size t) in
@@ -109,7 +109,7 @@ every_plan P t b n d kind =
     cond_both (eqb kind 0) top _ P (λ _. t)
     (λ _. cond_both (eqb kind 1) bottom _ P (λ _. b) (λ _. cond_both (eqb kind 2) bench dead P (λ _. n) (λ _. d)))
 
-pub every_laid_out : (kind : ℕ) → Laid_out (plan_of kind)
+pub every_laid_out : (kind : ℕ) → LaidOut (plan_of kind)
 every_laid_out kind = laid_out (plan_of kind) (every_plan Contiguous refl refl refl refl kind)
 
 pub every_total : (kind : ℕ) → total (plan_of kind).sizes ≡ (plan_of kind).size

@@ -60,7 +60,7 @@ Contiguous p = contiguous 0 p.starts p.sizes p.size ≡ true
 
 -- The law of blocks in full: the first begins at 0, each other one where the one before it ends, the last ends at the size,
 -- and so every address of the chip lies in exactly one block.
-pub record Laid_out (p : Plan) : Type 0 where
+pub record LaidOut (p : Plan) : Type 0 where
   pub first : 0 < length p.sizes → slice_index p.starts 0 ≡ 0
   pub next : (b : ℕ) → b + 1 < length p.sizes → slice_index p.starts (b + 1) ≡ slice_index p.starts b + slice_index p.sizes b
   pub last : (b : ℕ) → b + 1 ≡ length p.sizes → slice_index p.starts b + slice_index p.sizes b ≡ p.size

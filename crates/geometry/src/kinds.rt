@@ -1,7 +1,7 @@
 // The geometries by a plain number, which is what a chip keeps: each call goes to the one text that is generic over them.
 ghost use Rattle.std.specs.Prelude.{◌≡◌, ℕ, ◌≤◌, length};
 ghost use Rattle.geometry.specs.Blocks.{block_of, filled};
-ghost use Rattle.geometry.specs.Plans.{plan_of, block_at, Laid_out};
+ghost use Rattle.geometry.specs.Plans.{plan_of, block_at, LaidOut};
 
 use crate::tables::{Bench, Block, Bottom, Dead, Geometry, Top};
 use crate::walk;
@@ -43,7 +43,7 @@ pub fn code(kind: u8) -> u8
 pub fn count(kind: u8) -> usize
     ensures value { result ≡ length (plan_of kind).sizes }
     ensures bound { result ≤ 11 }
-    ensures law { (kind : ℕ) → Laid_out (plan_of kind) }
+    ensures law { (kind : ℕ) → LaidOut (plan_of kind) }
 {
     table_length(kind)
 }
