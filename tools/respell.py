@@ -5,7 +5,7 @@ usage: python3 tools/respell.py      at the top of the repository
 
 A name is turned where this repository defines it: a definition, a lemma, a record's field, a local name or an alias. Names that Rattle makes
 (of goals, steps and loops) and names of libraries stay. In src/ only clauses and ghost imports are touched, no code, comment or string. In pages
-a name between backquotes is turned where the sources have it in the new spelling.
+a name between backquotes is turned where the sources have it in the new spelling, but not in docs/PORT.md, which lists the old names.
 """
 
 import glob
@@ -90,7 +90,7 @@ def main():
         with open(path, encoding="utf-8") as f:
             words |= set(re.findall(r"[^\W\d][\w'-]*", f.read()))
     known = lambda m: spelled(m[0]) if "-" in m[0] and spelled(m[0]) in words else m[0]
-    for path in sorted(["README.md"] + glob.glob("docs/*.md")):
+    for path in sorted({"README.md", *glob.glob("docs/*.md")} - {"docs/PORT.md"}):
         rewrite(path, lambda t: re.sub(r"`[^`\n]*`", lambda m: WORD.sub(known, m[0]), t))
     print("%d names" % len(names))
 
