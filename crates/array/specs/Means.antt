@@ -4,6 +4,7 @@ use Rattle.part.specs.declared.answers.Standing.{Standing}
 use Rattle.part.specs.declared.answers.Standing.TheVariants.{Idle, Running, Suspended}
 use Rattle.part.specs.Meaning.{Erasure, Meaning}
 use Rattle.array.specs.declared.array.Array.{Array}
+use Rattle.array.specs.declared.array.Layout.{Layout}
 use Rattle.array.specs.Limits.{fit}
 
 abbrev pub erasure_of : Standing → Option Erasure
@@ -12,20 +13,23 @@ erasure_of (Running b) = Some (record { block = b; left = 1; running = true })
 erasure_of (Suspended b) = Some (record { block = b; left = 1; running = false })
 
 -- equal blocks on these cells
-abbrev pub equal_blocks : ℕ → ℕ → List ℕ → Standing → ℕ → Meaning
-equal_blocks count width cells standing clock = record {
+abbrev pub equal_blocks : Layout → List ℕ → Standing → ℕ → Meaning
+equal_blocks l cells standing clock = record {
   cells = cells;
-  sizes = replicate count width;
-  guards = replicate count false;
-  wears = replicate count false;
+  sizes = replicate l.count l.width;
+  guards = replicate l.count false;
+  wears = replicate l.count false;
   erasure = erasure_of standing;
   clock = clock;
 }
 
 abbrev pub means : Array → Meaning
-means s = equal_blocks s.count s.width (vec_items s.cells) s.standing s.clock
+means s = equal_blocks s.layout (vec_items s.cells) s.standing s.clock
+
+-- the layout of a dead array: no blocks
+abbrev pub no_blocks : Layout
+no_blocks = record { count = 0; width = 64 }
 
 -- a new array: no erasure, and no time has passed; one made of what does not fit is dead
-abbrev pub made : ℕ → ℕ → List ℕ → Meaning
-made count width cells =
-    cond (fit count width (length cells)) (equal_blocks count width cells Idle 0) (equal_blocks 0 64 [] Idle 0)
+abbrev pub made : Layout → List ℕ → Meaning
+made l cells = cond (fit l (length cells)) (equal_blocks l cells Idle 0) (equal_blocks no_blocks [] Idle 0)

@@ -5,37 +5,35 @@ ghost use Rattle.part.specs.Calls.{can_hold, can_go};
 ghost use Rattle.array.specs.Facts;
 
 use crate::array::Array;
+use chip::LONGEST;
 use geometry::Block;
 use part::{Part, PartFault, Progress, Shape, Standing, Turn, granted};
 use refusal::Cause;
-
-// The longest time, in microseconds, that may pass in one call.
-const LONGEST: u32 = 1_000_000_000;
 
 impl Part for Array {
     ghost means = { meaning };
 
     ghost lawful = { λ s. Facts.lawful s };
 
+    #[tactic(auto, using(crate::proofs::Rules::array_rules))]
     fn shape(&self) -> Shape {
         Shape {
             size: self.size(),
-            blocks: self.count,
+            blocks: self.layout.count,
             standing: self.standing,
         }
     }
 
+    #[tactic(auto, using(crate::proofs::Rules::array_rules))]
     fn block(&self, number: u32) -> Option<Block> {
-        if number < self.count {
-            Some(Block {
-                start: number * self.width,
-                size: self.width,
-            })
+        if number < self.layout.count {
+            Some(self.layout.block(number))
         } else {
             None
         }
     }
 
+    #[tactic(auto, using(crate::proofs::Rules::array_rules))]
     fn guarded(&self, _block: u32) -> bool {
         false
     }
@@ -56,12 +54,14 @@ impl Part for Array {
         Ok(())
     }
 
+    #[tactic(auto, using(crate::proofs::Rules::array_rules))]
     fn begin(&mut self, block: u32) -> Result<(), PartFault> {
         granted(self.begin_no(block), block)?;
         self.stand(Standing::Running(block));
         Ok(())
     }
 
+    #[tactic(auto, using(crate::specs::Facts::held_running))]
     fn hold(&mut self) -> Turn {
         match self.standing {
             Standing::Running(block) => {

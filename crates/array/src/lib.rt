@@ -7,4 +7,4 @@ mod making;
 mod refusals;
 mod work;
 
-pub use array::Array;
+pub use array::{Array, Layout};

@@ -5,27 +5,33 @@ ghost use Rattle.part.specs.Laws.{PartLaws};
 ghost use Rattle.array.specs.Limits.{fit, checked};
 ghost use Rattle.array.specs.Means.{equal_blocks, means, made};
 
-use crate::array::Array;
+use crate::array::{Array, Layout};
 use part::{PartFault, Standing};
 use refusal::Cause;
 
-// Whether an array can be made of so many blocks of this size and so many bytes of memory.
-fn fits(count: u32, width: u32, len: usize) -> bool
-    ensures { result ≡ fit count width len }
-{
-    (1 <= count)
-        & (count <= 256)
-        & (64 <= width)
-        & (width <= 65536)
-        & (len == count as usize * width as usize)
+impl Layout {
+    // Whether an array can be made of it and so many bytes of memory.
+    fn fits(self, len: usize) -> bool
+        ensures { result ≡ fit self len }
+    {
+        (1..=256).contains(&self.count)
+            && (64..=65536).contains(&self.width)
+            && len == self.count as usize * self.width as usize
+    }
 }
+
+// The layout of a dead array.
+const NO_BLOCKS: Layout = Layout {
+    count: 0,
+    width: 64,
+};
 
 impl Array {
     // Refuses numbers outside their limits and memory of another size.
-    pub fn check(count: u32, width: u32, memory: &[u8]) -> Result<(), PartFault>
-        ensures { result ≡ checked count width (length memory.now) }
+    pub fn check(layout: Layout, memory: &[u8]) -> Result<(), PartFault>
+        ensures { result ≡ checked layout (length memory.now) }
     {
-        if fits(count, width, memory.len()) {
+        if layout.fits(memory.len()) {
             Ok(())
         } else {
             Err(PartFault {
@@ -35,29 +41,31 @@ impl Array {
         }
     }
 
-    fn fresh(count: u32, width: u32, cells: Vec<u8>) -> Array
-        requires { (vec_len cells ≡ count * width) × ((count ≤ 256) × ((64 ≤ width) × (width ≤ 65536))) }
-        ensures { means result ≡ equal_blocks count width cells.items Idle 0 }
+    fn fresh(layout: Layout, cells: Vec<u8>) -> Array
+        requires whole { vec_len cells ≡ layout.count * layout.width }
+        requires few { layout.count ≤ 256 }
+        requires least { 64 ≤ layout.width }
+        requires most { layout.width ≤ 65536 }
+        ensures { means result ≡ equal_blocks layout cells.items Idle 0 }
     {
         Array {
             cells,
-            count,
-            width,
+            layout,
             standing: Standing::Idle,
             clock: 0,
         }
     }
 
     // An array on this memory; a dead one, with no blocks, where `check` refuses it.
-    pub fn new(count: u32, width: u32, memory: Vec<u8>) -> Array
-        ensures part { means result ≡ made count width memory.items }
+    #[tactic(auto, using(part::proofs::Lasting::part_laws))]
+    pub fn new(layout: Layout, mut memory: Vec<u8>) -> Array
+        ensures part { means result ≡ made layout memory.items }
         ensures laws { PartLaws }
     {
-        let mut cells = memory;
-        if fits(count, width, cells.len()) {
-            return Array::fresh(count, width, cells);
+        if layout.fits(memory.len()) {
+            return Array::fresh(layout, memory);
         }
-        cells.clear();
-        Array::fresh(0, 64, cells)
+        memory.clear();
+        Array::fresh(NO_BLOCKS, memory)
     }
 }

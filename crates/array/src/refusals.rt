@@ -1,44 +1,19 @@
-// Why an array refuses a call.
-ghost use Rattle.std.specs.Prelude.{◌≡◌, Bool, length};
+// Why an array refuses a call. The driver asks the same of its own record: one function over any part cannot be called from
+// within a part's own impl, which the check does not cover.
+ghost use Rattle.std.specs.Prelude.{◌≡◌};
 ghost use Rattle.part.specs.Meaning.{size, cell};
-ghost use Rattle.part.specs.Calls.{needs_erase, stands, hides, peek_no, burn_no, begin_no};
-ghost use Rattle.array.specs.Means.{erasure_of, means};
+ghost use Rattle.part.specs.Calls.{peek_no, burn_no, begin_no};
+ghost use Rattle.array.specs.Means.{means};
 
 use crate::array::Array;
-use part::Standing;
+use chip::needs_erase;
 use refusal::Cause;
-
-fn needs_erase(old: u8, byte: u8) -> bool
-    ensures { result ≡ needs_erase old byte }
-{
-    old & byte != byte
-}
-
-fn stands(standing: Standing) -> bool
-    ensures { result ≡ stands (erasure_of standing) }
-{
-    match standing {
-        Standing::Idle => false,
-        Standing::Running(_) => true,
-        Standing::Suspended(_) => true,
-    }
-}
-
-fn hides(standing: Standing, block: u32) -> bool
-    ensures { result ≡ hides (erasure_of standing) block }
-{
-    match standing {
-        Standing::Idle => false,
-        Standing::Running(_) => true, // every block
-        Standing::Suspended(own) => own == block,
-    }
-}
 
 impl Array {
     pub(crate) fn size(&self) -> u32
         ensures { result ≡ size (means self.now) }
     {
-        self.count * self.width
+        self.layout.count * self.layout.width
     }
 
     pub(crate) fn cell(&self, address: u32) -> u8
@@ -47,24 +22,26 @@ impl Array {
         geometry::cell_at(self.cells.as_slice(), address)
     }
 
+    #[tactic(auto, using(crate::proofs::Rules::array_rules))]
     pub(crate) fn peek_no(&self, address: u32) -> Option<Cause>
         ensures { result ≡ peek_no (means self.now) address }
     {
         if address >= self.size() {
             Some(Cause::AddressOutside)
-        } else if hides(self.standing, address / self.width) {
+        } else if self.standing.hides(address / self.layout.width) {
             Some(Cause::ErasureInTheWay)
         } else {
             None
         }
     }
 
+    #[tactic(auto, using(crate::proofs::Rules::array_rules))]
     pub(crate) fn burn_no(&self, address: u32, byte: u8) -> Option<Cause>
         ensures { result ≡ burn_no (means self.now) address byte }
     {
         if address >= self.size() {
             Some(Cause::AddressOutside)
-        } else if stands(self.standing) {
+        } else if self.standing.stands() {
             Some(Cause::ErasureInTheWay)
         } else if needs_erase(self.cell(address), byte) {
             Some(Cause::NeedsErase)
@@ -73,12 +50,13 @@ impl Array {
         }
     }
 
+    #[tactic(auto, using(crate::proofs::Rules::array_rules))]
     pub(crate) fn begin_no(&self, block: u32) -> Option<Cause>
         ensures { result ≡ begin_no (means self.now) block }
     {
-        if block >= self.count {
+        if block >= self.layout.count {
             Some(Cause::NoSuchBlock)
-        } else if stands(self.standing) {
+        } else if self.standing.stands() {
             Some(Cause::ErasureInTheWay)
         } else {
             None

@@ -13,9 +13,8 @@ impl Array {
     pub(crate) fn put(&mut self, address: u32, byte: u8)
         ensures { means self.new ≡ with_cells (means self.old) (slice_set self.old.cells.items address byte) }
     {
-        let at = address as usize;
-        if at < self.cells.len() {
-            self.cells[at] = byte;
+        if let Some(cell) = self.cells.get_mut(address as usize) {
+            *cell = byte;
         }
     }
 
@@ -28,7 +27,7 @@ impl Array {
 
     // Another erasure stands, or none.
     pub(crate) fn stand(&mut self, standing: Standing)
-        requires { in_blocks standing self.old.count ≡ true }
+        requires { in_blocks standing self.old.layout.count ≡ true }
         ensures { means self.new ≡ with_erasure (means self.old) (erasure_of standing) }
     {
         self.standing = standing;
@@ -36,14 +35,16 @@ impl Array {
 
     // The block becomes FFh throughout.
     fn wipe(&mut self, block: u32)
-        requires { block < self.old.count }
+        requires { block < self.old.layout.count }
         ensures { means self.new ≡ with_cells (means self.old) (wiped (means self.old).sizes block 0xFF self.old.cells.items) }
     {
-        let from = block * self.width;
-        geometry::fill_range(self.cells.as_mut_slice(), from, self.width, 0xFF);
+        self.layout
+            .block(block)
+            .fill(self.cells.as_mut_slice(), 0xFF);
     }
 
     // Lets n microseconds pass on a running erasure, the clock aside.
+    #[tactic(auto, using(crate::specs::Facts::ended))]
     pub(crate) fn run(&mut self, n: u32) -> Progress
         ensures answer { result ≡ progress (means self.old) n (means self.old).erasure }
         ensures ran { means self.new ≡ run_on (means self.old) n (means self.old).erasure }

@@ -5,7 +5,14 @@ ghost use Rattle.chip.specs.Flash.{view, cell, lies_in, without, erasable};
 use crate::chip::Chip;
 
 // A mask of every block that a chip can have.
-const ALL: u32 = 0x7FF;
+pub(crate) const ALL: u32 = 0x7FF;
+
+// The blocks of a mask that are not in the other.
+pub(crate) fn without(mask: u32, other: u32) -> u32
+    ensures { result ≡ without mask other }
+{
+    mask & (other ^ ALL)
+}
 
 impl Chip {
     // The cell at an address; 0 where there is none.
@@ -19,21 +26,13 @@ impl Chip {
     pub(crate) fn lies_in(&self, mask: u32, address: u32) -> bool
         ensures { result ≡ lies_in (view self.now) mask address }
     {
-        let block = geometry::block_at(self.setup.kind, address);
-        (mask >> block) % 2 == 1
-    }
-
-    // The blocks of a mask that are not worn.
-    pub(crate) fn sound(&self, mask: u32) -> u32
-        ensures { result ≡ without mask self.now.setup.worn }
-    {
-        mask & (self.setup.worn ^ ALL)
+        geometry::is_marked(mask, geometry::block_at(self.setup.kind, address))
     }
 
     // The selected blocks that are not protected.
     pub(crate) fn erasable(&self, selected: u32) -> u32
         ensures { result ≡ erasable (view self.now) selected }
     {
-        selected & (self.setup.protected ^ ALL)
+        without(selected, self.setup.protected)
     }
 }

@@ -8,11 +8,10 @@ ghost use Rattle.chip.specs.Laws.{WriteLaws, ReadLaws, PassLaws};
 
 use crate::chip::Chip;
 use crate::fault::ChipFault;
-use crate::reads::flip;
 use refusal::Cause;
 
 // The longest time, in microseconds, that may pass in one call.
-const LONGEST: u32 = 1_000_000_000;
+pub const LONGEST: u32 = 1_000_000_000;
 
 fn short_enough(n: u32) -> Result<(), ChipFault>
     ensures { result ≡ waited n }
@@ -41,30 +40,34 @@ impl Chip {
         }
     }
 
-    // A write cycle. An address outside is refused, and nothing changes.
+    // A write cycle. An address outside is refused, and nothing changes. Address and byte are two numbers here and in all that follows from a
+    // write, as they are on the wires: a pair would be taken apart in each.
+    #[tactic(auto, using(crate::proofs::WriteLaws::write_laws), unfolding(crate::specs::Writes::heard, crate::specs::Writes::written))]
     pub fn write(&mut self, address: u32, byte: u8) -> Result<(), ChipFault>
         ensures answer { result ≡ heard (view self.old) address }
         ensures chip { view self.new ≡ written (view self.old) address byte }
         ensures laws { WriteLaws }
     {
         self.inside(address)?;
-        self.state = self.heed(self.state, address, byte);
+        self.state = self.heed(address, byte);
         Ok(())
     }
 
     // A read cycle. An address outside is refused, and nothing changes.
+    #[tactic(auto, using(crate::proofs::WriteLaws::read_laws), unfolding(crate::specs::Reads::answered, crate::specs::Reads::seen))]
     pub fn read(&mut self, address: u32) -> Result<u8, ChipFault>
         ensures answer { result ≡ answered (view self.old) address }
         ensures chip { view self.new ≡ seen (view self.old) address }
         ensures laws { ReadLaws }
     {
         self.inside(address)?;
-        let byte = self.show(self.state, address);
-        self.state = flip(self.state);
+        let byte = self.show(address);
+        self.state = self.state.flipped();
         Ok(byte)
     }
 
     // Lets n microseconds pass. A time over 1,000,000,000 is refused, and nothing changes.
+    #[tactic(auto, using(crate::proofs::PassLaws::pass_laws), unfolding(crate::specs::Times::after))]
     pub fn pass(&mut self, n: u32) -> Result<(), ChipFault>
         ensures answer { result ≡ waited n }
         ensures chip { view self.new ≡ after n (view self.old) }

@@ -15,6 +15,9 @@ mod time;
 mod writes;
 
 pub use chip::Chip;
+pub use commands::{FIRST, SECOND};
+pub use cycles::LONGEST;
 pub use fault::ChipFault;
 pub use setup::Setup;
 pub use state::{Decision, Erase, Mode, Phase, Place, Program, State};
+pub use writes::needs_erase;

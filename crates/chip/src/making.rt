@@ -1,22 +1,20 @@
 // The making of a chip, and what can be asked of it.
 ghost use Rattle.std.specs.Prelude.{◌≡◌, ◌≤◌, true, length, vec_len};
 ghost use Rattle.geometry.specs.Blocks.{block_of};
-ghost use Rattle.geometry.specs.Plans.{plan_of, block_at};
-ghost use Rattle.chip.specs.Setups.{between, in_limits, fit};
+ghost use Rattle.geometry.specs.Plans.{plan_of, starts_of, sizes_of, block_at};
+ghost use Rattle.chip.specs.Setups.{in_limits, fit};
 ghost use Rattle.chip.specs.Flash.{view, size, blocks};
 ghost use Rattle.chip.specs.Making.{checked, fresh, made};
 ghost use Rattle.chip.specs.Laws.{AllSound};
 ghost use Rattle.chip.specs.Examples.{WorkedExamples};
 
+use crate::blocks::ALL;
 use crate::chip::Chip;
 use crate::fault::ChipFault;
 use crate::setup::Setup;
 use crate::time::READ_MODE;
 use geometry::Block;
 use refusal::Cause;
-
-// The last block that a mask may have.
-const BLOCKS: u32 = 0x7FF;
 
 const NO_CHIP: Setup = Setup {
     kind: geometry::DEAD,
@@ -27,30 +25,22 @@ const NO_CHIP: Setup = Setup {
     worn: 0,
 };
 
-fn between(low: u32, n: u32, high: u32) -> bool
-    ensures { result ≡ between low n high }
-{
-    (low <= n) & (n <= high)
-}
-
 impl Setup {
     fn in_limits(&self) -> bool
         ensures { result ≡ in_limits self.now }
     {
-        between(1, self.program, 300)
-            & between(1, self.erase, 10_000_000)
-            & between(1, self.suspend, 15)
-            & (self.protected <= BLOCKS)
-            & (self.worn <= BLOCKS)
+        (1..=300).contains(&self.program)
+            && (1..=10_000_000).contains(&self.erase)
+            && (1..=15).contains(&self.suspend)
+            && self.protected <= ALL
+            && self.worn <= ALL
     }
 
     // Whether a chip can be made of these numbers and so many bytes of memory.
     fn fits(&self, len: usize) -> bool
         ensures { result ≡ fit self.now len }
     {
-        (self.kind < geometry::DEAD)
-            & self.in_limits()
-            & (len == geometry::size(self.kind) as usize)
+        self.kind < geometry::DEAD && self.in_limits() && len == geometry::size(self.kind) as usize
     }
 
     // Refuses numbers outside their limits and memory that has not the geometry's size.
@@ -83,17 +73,17 @@ impl Chip {
     }
 
     // A chip on this memory; a dead one, of size 0, where `Setup::check` refuses it.
-    pub fn new(setup: Setup, memory: Vec<u8>) -> Chip
+    #[tactic(auto, using(crate::proofs::PassLaws::all_sound, crate::proofs::Worked::worked_examples), unfolding(crate::specs::Making::made))]
+    pub fn new(setup: Setup, mut memory: Vec<u8>) -> Chip
         ensures chip { view result ≡ made setup memory.items }
         ensures sound { AllSound }
         ensures examples { WorkedExamples }
     {
-        let mut cells = memory;
-        if setup.fits(cells.len()) {
-            return Chip::fresh(setup, cells);
+        if setup.fits(memory.len()) {
+            return Chip::fresh(setup, memory);
         }
-        cells.clear();
-        Chip::fresh(NO_CHIP, cells)
+        memory.clear();
+        Chip::fresh(NO_CHIP, memory)
     }
 
     // How many bytes the chip has.
@@ -108,6 +98,14 @@ impl Chip {
         ensures { result ≡ length (blocks (view self.now)) }
     {
         geometry::count(self.setup.kind)
+    }
+
+    // The blocks, one after the other.
+    pub fn table(&self) -> &'static [Block]
+        ensures starts { starts_of result.now ≡ (plan_of self.now.setup.kind).starts }
+        ensures sizes { sizes_of result.now ≡ (plan_of self.now.setup.kind).sizes }
+    {
+        geometry::table(self.setup.kind)
     }
 
     // Where a block begins and how many bytes it has; none where there is no such block.

@@ -1,7 +1,7 @@
 // The read cycle.
 ghost use Rattle.std.specs.Prelude.{◌≡◌};
 ghost use Rattle.chip.specs.Flash.{view};
-ghost use Rattle.chip.specs.Reads.{identity, status, erase_status, shown, flipped};
+ghost use Rattle.chip.specs.Reads.{identity, status, erase_status, shown, flip_erase, flipped};
 
 use crate::chip::Chip;
 use crate::state::{Erase, Mode, Phase, Program, State};
@@ -17,38 +17,38 @@ fn status_byte(byte: u8, toggle: bool, failed: bool, begun: bool) -> u8
     inverse + toggle + failed + begun
 }
 
-fn erase_status(erase: Erase) -> u8
-    ensures { result ≡ erase_status erase }
-{
-    let begun = match erase.phase {
-        Phase::Window => false,
-        Phase::Erasing => true,
-    };
-    status_byte(0xFF, erase.toggle, false, begun)
+impl Erase {
+    fn status(self) -> u8
+        ensures { result ≡ erase_status self }
+    {
+        status_byte(0xFF, self.toggle, false, self.phase == Phase::Erasing)
+    }
+
+    fn flipped(self) -> Erase
+        ensures { result ≡ flip_erase self }
+    {
+        Erase {
+            toggle: !self.toggle,
+            ..self
+        }
+    }
 }
 
-// The state after a read: a read of the status flips the toggle bit.
-pub(crate) fn flip(state: State) -> State
-    ensures { result ≡ flipped state }
-{
-    match state {
-        State::Programming(p) => State::Programming(Program {
-            toggle: !p.toggle,
-            ..p
-        }),
-        State::Erasing(e) => State::Erasing(Erase {
-            toggle: !e.toggle,
-            ..e
-        }),
-        State::Suspending(e, wait) => State::Suspending(
-            Erase {
-                toggle: !e.toggle,
-                ..e
-            },
-            wait,
-        ),
-        State::Failed(byte, toggle) => State::Failed(byte, !toggle),
-        quiet => quiet,
+impl State {
+    // The state after a read: a read of the status flips the toggle bit.
+    pub(crate) fn flipped(self) -> State
+        ensures { result ≡ flipped self }
+    {
+        match self {
+            State::Programming(p) => State::Programming(Program {
+                toggle: !p.toggle,
+                ..p
+            }),
+            State::Erasing(e) => State::Erasing(e.flipped()),
+            State::Suspending(e, wait) => State::Suspending(e.flipped(), wait),
+            State::Failed(byte, toggle) => State::Failed(byte, !toggle),
+            quiet => quiet,
+        }
     }
 }
 
@@ -66,15 +66,14 @@ impl Chip {
     }
 
     // What a read answers, by what the chip is doing.
-    pub(crate) fn show(&self, state: State, address: u32) -> u8
-        ensures { result ≡ shown (view self.now) state address }
+    pub(crate) fn show(&self, address: u32) -> u8
+        ensures { result ≡ shown (view self.now) self.now.state address }
     {
-        match state {
+        match self.state {
             State::Ready(Mode::Read, _) => self.cell(address),
             State::Ready(Mode::Id, _) => self.identity(address & 0x43, address),
             State::Programming(p) => status_byte(p.byte, p.toggle, false, false),
-            State::Erasing(e) => erase_status(e),
-            State::Suspending(e, _) => erase_status(e),
+            State::Erasing(e) | State::Suspending(e, _) => e.status(),
             State::Suspended(e) if self.lies_in(e.selected, address) => 0x80,
             State::Suspended(_) => self.cell(address),
             State::Failed(byte, toggle) => status_byte(byte, toggle, true, true),

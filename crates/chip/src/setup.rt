@@ -1,7 +1,7 @@
 // The numbers that a chip is made with.
-#[derive(Clone, Copy)]
+#[derive(Clone, Copy, Debug, PartialEq, Eq)]
 pub struct Setup {
-    // Which geometry: TOP, BOTTOM or BENCH of the crate `geometry`.
+    // Which geometry: TOP, BOTTOM or BENCH of the crate `geometry`. A plain number, so that every number is refused or answered.
     pub kind: u8,
     // Microseconds that a byte takes to program.
     pub program: u32,

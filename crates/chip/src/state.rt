@@ -1,7 +1,7 @@
 // What a chip is doing.
 
 // What a read sees where the chip is not busy.
-#[derive(Clone, Copy)]
+#[derive(Clone, Copy, Debug, PartialEq, Eq)]
 pub enum Mode {
     // The cells.
     Read,
@@ -10,7 +10,7 @@ pub enum Mode {
 }
 
 // The place in a command sequence: which write comes next.
-#[derive(Clone, Copy)]
+#[derive(Clone, Copy, Debug, PartialEq, Eq)]
 pub enum Place {
     // No sequence has begun: AAh at 5555h begins one.
     Start,
@@ -29,7 +29,7 @@ pub enum Place {
 }
 
 // What a write of a sequence means.
-#[derive(Clone, Copy)]
+#[derive(Clone, Copy, Debug, PartialEq, Eq)]
 pub enum Decision {
     // The sequence goes on.
     Next(Place),
@@ -44,7 +44,7 @@ pub enum Decision {
 }
 
 // A byte that is being programmed.
-#[derive(Clone, Copy)]
+#[derive(Clone, Copy, Debug, PartialEq, Eq)]
 pub struct Program {
     pub address: u32,
     pub byte: u8,
@@ -55,7 +55,7 @@ pub struct Program {
 }
 
 // The two parts of a block erase.
-#[derive(Clone, Copy)]
+#[derive(Clone, Copy, Debug, PartialEq, Eq)]
 pub enum Phase {
     // More blocks may be added; nothing is erased yet.
     Window,
@@ -64,7 +64,7 @@ pub enum Phase {
 }
 
 // A block erase.
-#[derive(Clone, Copy)]
+#[derive(Clone, Copy, Debug, PartialEq, Eq)]
 pub struct Erase {
     pub phase: Phase,
     // The selected blocks, block b as bit b, protected ones too.
@@ -75,7 +75,7 @@ pub struct Erase {
     pub toggle: bool,
 }
 
-#[derive(Clone, Copy)]
+#[derive(Clone, Copy, Debug, PartialEq, Eq)]
 pub enum State {
     // Not busy, in a mode and at a place of a command sequence.
     Ready(Mode, Place),

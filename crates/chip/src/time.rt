@@ -15,33 +15,35 @@ const FAILED_ERASE: u32 = 10_000_000;
 
 pub(crate) const READ_MODE: State = State::Ready(Mode::Read, Place::Start);
 
-// Microseconds until the state ends by itself, at least one; none where it does not.
-fn due(state: State) -> Option<u32>
-    ensures { result ≡ due state }
-{
-    match state {
-        State::Programming(p) => Some(p.left.max(1)),
-        State::Erasing(e) => Some(e.left.max(1)),
-        State::Suspending(_, wait) => Some(wait.max(1)),
-        _ => None,
+impl State {
+    // Microseconds until the state ends by itself, at least one; none where it does not.
+    fn due(self) -> Option<u32>
+        ensures { result ≡ due self }
+    {
+        match self {
+            State::Programming(p) => Some(p.left.max(1)),
+            State::Erasing(e) => Some(e.left.max(1)),
+            State::Suspending(_, wait) => Some(wait.max(1)),
+            _ => None,
+        }
     }
-}
 
-// The state with n microseconds less to go.
-fn lower(state: State, n: u32) -> State
-    ensures { result ≡ lowered n state }
-{
-    match state {
-        State::Programming(p) => State::Programming(Program {
-            left: p.left.saturating_sub(n),
-            ..p
-        }),
-        State::Erasing(e) => State::Erasing(Erase {
-            left: e.left.saturating_sub(n),
-            ..e
-        }),
-        State::Suspending(e, wait) => State::Suspending(e, wait.saturating_sub(n)),
-        lasting => lasting,
+    // The state with n microseconds less to go.
+    fn lowered(self, n: u32) -> State
+        ensures { result ≡ lowered n self }
+    {
+        match self {
+            State::Programming(p) => State::Programming(Program {
+                left: p.left.saturating_sub(n),
+                ..p
+            }),
+            State::Erasing(e) => State::Erasing(Erase {
+                left: e.left.saturating_sub(n),
+                ..e
+            }),
+            State::Suspending(e, wait) => State::Suspending(e, wait.saturating_sub(n)),
+            lasting => lasting,
+        }
     }
 }
 
@@ -50,13 +52,13 @@ impl Chip {
     pub(crate) fn burn(&mut self, address: u32, byte: u8)
         ensures { view self.new ≡ with_cells (view self.old) (burnt (view self.old) address byte) self.old.state }
     {
-        let at = address as usize;
-        if at < self.cells.len() {
-            self.cells[at] &= byte;
+        if let Some(cell) = self.cells.get_mut(address as usize) {
+            *cell &= byte;
         }
     }
 
     // The blocks of the mask become `byte` throughout.
+    #[tactic(auto, using(geometry::proofs::Filling::length_filled))]
     pub(crate) fn fill(&mut self, mask: u32, byte: u8)
         ensures { view self.new ≡ with_cells (view self.old) (filled (blocks (view self.old)) mask byte self.old.cells.items) self.old.state }
     {
@@ -104,10 +106,10 @@ impl Chip {
         }
     }
 
-    fn end_erase(&mut self, e: Erase, phase: Phase)
-        ensures { view self.new ≡ erased (view self.old) e phase }
+    fn end_erase(&mut self, e: Erase)
+        ensures { view self.new ≡ erased (view self.old) e e.phase }
     {
-        match phase {
+        match e.phase {
             Phase::Window => {
                 let left = self.erase_time(e.selected);
                 self.state = State::Erasing(Erase {
@@ -129,12 +131,12 @@ impl Chip {
     }
 
     // Ends what the chip is doing.
-    fn end(&mut self, state: State)
-        ensures { view self.new ≡ ended (view self.old) state }
+    fn end(&mut self)
+        ensures { view self.new ≡ ended (view self.old) self.old.state }
     {
-        match state {
+        match self.state {
             State::Programming(p) => self.end_program(p),
-            State::Erasing(e) => self.end_erase(e, e.phase),
+            State::Erasing(e) => self.end_erase(e),
             State::Suspending(e, _) => self.state = State::Suspended(e),
             _ => {}
         }
@@ -145,14 +147,14 @@ impl Chip {
         ensures same { steps n (view self.old) ≡ steps result (view self.new) }
         ensures less { 0 < n → result < n }
     {
-        let Some(left) = due(self.state) else {
+        let Some(left) = self.state.due() else {
             return 0;
         };
         if n < left {
-            self.state = lower(self.state, n);
+            self.state = self.state.lowered(n);
             return 0;
         }
-        self.end(self.state);
+        self.end();
         n - left
     }
 

@@ -4,8 +4,8 @@ ghost use Rattle.chip.specs.Flash.{view};
 ghost use Rattle.chip.specs.Writes.{needs_erase, program_time, block_mask, obeyed, interrupted, heeded};
 
 use crate::chip::Chip;
-use crate::commands::decide;
 use crate::state::{Decision, Erase, Mode, Phase, Place, Program, State};
+use crate::time::READ_MODE;
 
 // Microseconds that more blocks may be added to an erase.
 const WINDOW: u32 = 50;
@@ -15,7 +15,7 @@ const REFUSED_PROGRAM: u32 = 3;
 const FAILED_PROGRAM: u32 = 300;
 
 // Whether the byte has a 1 where the cell has a 0.
-pub(crate) fn needs_erase(old: u8, byte: u8) -> bool
+pub fn needs_erase(old: u8, byte: u8) -> bool
     ensures { result ≡ needs_erase old byte }
 {
     old & byte != byte
@@ -65,10 +65,10 @@ impl Chip {
     }
 
     // What the chip does after a write during a block erase.
-    fn interrupt(&self, erase: Erase, phase: Phase, address: u32, byte: u8) -> State
-        ensures { result ≡ interrupted (view self.now) erase phase address byte }
+    fn interrupt(&self, erase: Erase, address: u32, byte: u8) -> State
+        ensures { result ≡ interrupted (view self.now) erase erase.phase address byte }
     {
-        match (phase, byte) {
+        match (erase.phase, byte) {
             (_, 0xB0) => State::Suspending(erase, self.setup.suspend),
             (Phase::Erasing, _) => State::Erasing(erase),
             (Phase::Window, 0x30) => State::Erasing(Erase {
@@ -77,24 +77,24 @@ impl Chip {
                 left: WINDOW, // counted from this 30h on
                 toggle: erase.toggle,
             }),
-            (Phase::Window, _) => State::Ready(Mode::Read, Place::Start),
+            (Phase::Window, _) => READ_MODE,
         }
     }
 
     // What the chip does after a write, by what it was doing.
-    pub(crate) fn heed(&self, state: State, address: u32, byte: u8) -> State
-        ensures { result ≡ heeded (view self.now) state address byte }
+    pub(crate) fn heed(&self, address: u32, byte: u8) -> State
+        ensures { result ≡ heeded (view self.now) self.now.state address byte }
     {
-        match state {
+        match self.state {
             State::Ready(mode, place) => self.obey(
                 mode,
                 address,
                 byte,
-                decide(place, address % 0x8000, byte),
+                place.decide(address % 0x8000, byte),
             ),
-            State::Erasing(erase) => self.interrupt(erase, erase.phase, address, byte),
+            State::Erasing(erase) => self.interrupt(erase, address, byte),
             State::Suspended(erase) if byte == 0x30 => State::Erasing(erase),
-            State::Failed(_, _) if byte == 0xF0 => State::Ready(Mode::Read, Place::Start),
+            State::Failed(_, _) if byte == 0xF0 => READ_MODE,
             busy => busy,
         }
     }

@@ -3,7 +3,7 @@ use Rattle.std.proofs.Common.{◌≡◌, ℕ, ◌+◌, ◌^◌, ◌<◌, ◌≤�
 use Rattle.std.proofs.lemmas.List.{get_or_past}
 use Rattle.std.proofs.lemmas.Bool.{ltb-true, lt-ltb, ltb-false, cases_Bool, cond-true, cond-false, cond_both, true≢false}
 use Rattle.geometry.specs.Blocks.{bit, block_of}
-use Rattle.geometry.specs.declared.tables.Block.{Block}
+use Rattle.geometry.specs.declared.block.Block.{Block}
 use Rattle.geometry.specs.Plans.{Plan, plan_of, block_at}
 use Rattle.geometry.proofs.Placing.{every_plan, every_block, every_few}
 use Rattle.chip.specs.declared.state.Phase.TheVariants.{Window}

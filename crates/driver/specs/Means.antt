@@ -5,4 +5,4 @@ use Rattle.driver.specs.declared.driven.Driven.{Driven}
 use Rattle.driver.specs.Driven.{meaning}
 
 abbrev pub means : Driven → Meaning
-means s = meaning (view s.chip) s.standing
+means s = meaning (view s.bus.chip) s.standing

@@ -21,6 +21,8 @@ use Rattle.chip.specs.Laws.{Sound}
 use Rattle.part.specs.declared.answers.Standing.{Standing}
 use Rattle.part.specs.declared.answers.Standing.TheVariants.{Idle, Running, Suspended as Held}
 use Rattle.part.specs.Meaning.{ErasureLawful, Lawful, standing_of}
+use Rattle.part.specs.Calls.{stands, hides}
+use Rattle.part.specs.Standings.{stood, hid}
 use Rattle.driver.specs.Driven.{marks, left_of, time_left, erasure_in, meaning, erases, ready, running, held, tied}
 use Rattle.driver.specs.Work.{erase_of}
 
@@ -176,6 +178,17 @@ lawful f st s t = record {
     by (Held b) t =
         let r = held_is f b f.state t in
         (r.1.within, subst (λ (x : State). 1 ≤ time_left f x) (sym r.0) (left_lasts f (erase_of f.state) (erase_of f.state).phase r.1.lasts))
+
+-- Whether an erasure stands and what it hides, by the standing that the driver keeps.
+pub stood_of : (f : Flash) (st : Standing) → stands (erasure_in f st) ≡ stood st
+stood_of f Idle = refl
+stood_of f (Running b) = refl
+stood_of f (Held b) = refl
+
+pub hid_of : (f : Flash) (st : Standing) (b : ℕ) → hides (erasure_in f st) b ≡ hid st b
+hid_of f Idle b = refl
+hid_of f (Running own) b = refl
+hid_of f (Held own) b = refl
 
 pub standing_back : (f : Flash) (st : Standing) → standing_of (erasure_in f st) ≡ st
 standing_back f Idle = refl

@@ -1,62 +1,77 @@
-// Cycles and time on a chip, without a refusal to handle: where a cycle is refused the chip does nothing, and a read is 0.
 ghost use Rattle.std.specs.Prelude.{◌≡◌};
 ghost use Rattle.chip.specs.Flash.{view};
 ghost use Rattle.chip.specs.Writes.{written};
 ghost use Rattle.chip.specs.Reads.{answered, seen};
 ghost use Rattle.chip.specs.Times.{after};
+ghost use Rattle.chip.specs.Laws.{unlocked};
 ghost use Rattle.driver.specs.Status.{byte_of};
 ghost use Rattle.driver.specs.Work.{commanded, polled, poll_verdict, twice_seen, stands_still};
 
 use crate::verdict::{Verdict, judge};
-use chip::Chip;
+use chip::{Chip, FIRST, SECOND};
 
-pub(crate) fn put(chip: &mut Chip, address: u32, byte: u8)
-    ensures { view chip.new ≡ written (view chip.old) address byte }
-{
-    let _ = chip.write(address, byte);
+// A chip on its wires: cycles and time, without a refusal to handle. Where a cycle is refused the chip does nothing, and a
+// read is 0. (The workbench has the command sequences for chips that may refuse; those end at a refusal and answer it.)
+// What an operation needs of the chip's state stands in its `requires`: three begin in read mode and three need a chip that has an
+// address 0, from different callers, and a type for each such state would be one more wrapper around the chip.
+#[derive(Drop)]
+pub(crate) struct Bus {
+    pub(crate) chip: Chip,
 }
 
-pub(crate) fn see(chip: &mut Chip, address: u32) -> u8
-    ensures byte { result ≡ byte_of (answered (view chip.old) address) }
-    ensures chip { view chip.new ≡ seen (view chip.old) address }
-{
-    match chip.read(address) {
-        Ok(byte) => byte,
-        Err(_) => 0,
+impl Bus {
+    pub(crate) fn put(&mut self, address: u32, byte: u8)
+        ensures { view self.new.chip ≡ written (view self.old.chip) address byte }
+    {
+        let _ = self.chip.write(address, byte);
     }
-}
 
-pub(crate) fn wait(chip: &mut Chip, n: u32)
-    ensures { view chip.new ≡ after n (view chip.old) }
-{
-    let _ = chip.pass(n);
-}
+    pub(crate) fn see(&mut self, address: u32) -> u8
+        ensures byte { result ≡ byte_of (answered (view self.old.chip) address) }
+        ensures chip { view self.new.chip ≡ seen (view self.old.chip) address }
+    {
+        self.chip.read(address).unwrap_or(0)
+    }
 
-// The two unlocking writes, and a command.
-pub(crate) fn command(chip: &mut Chip, byte: u8)
-    ensures { view chip.new ≡ commanded (view chip.old) byte }
-{
-    put(chip, 0x5555, 0xAA);
-    put(chip, 0x2AAA, 0x55);
-    put(chip, 0x5555, byte);
-}
+    fn wait(&mut self, n: u32)
+        ensures { view self.new.chip ≡ after n (view self.old.chip) }
+    {
+        let _ = self.chip.pass(n);
+    }
 
-// One microsecond, then one read of an operation that is to leave `wanted` in the cell.
-pub(crate) fn poll(chip: &mut Chip, address: u32, wanted: u8) -> Verdict
-    ensures verdict { result ≡ poll_verdict (view chip.old) address wanted }
-    ensures chip { view chip.new ≡ polled (view chip.old) address }
-{
-    wait(chip, 1);
-    judge(see(chip, address), wanted)
-}
+    // The two unlocking writes.
+    pub(crate) fn unlock(&mut self)
+        ensures { view self.new.chip ≡ unlocked (view self.old.chip) 0x5555 0x2AAA }
+    {
+        self.put(FIRST, 0xAA);
+        self.put(SECOND, 0x55);
+    }
 
-// One microsecond, then two reads: whether they agree in the toggle bit.
-pub(crate) fn still(chip: &mut Chip, address: u32) -> bool
-    ensures answer { result ≡ stands_still (view chip.old) address }
-    ensures chip { view chip.new ≡ twice_seen (view chip.old) address }
-{
-    wait(chip, 1);
-    let first = see(chip, address);
-    let second = see(chip, address);
-    first / 64 % 2 == second / 64 % 2
+    // The two unlocking writes, and a command.
+    pub(crate) fn command(&mut self, byte: u8)
+        ensures { view self.new.chip ≡ commanded (view self.old.chip) byte }
+    {
+        self.unlock();
+        self.put(FIRST, byte);
+    }
+
+    // One microsecond, then one read of an operation that is to leave `wanted` in the cell.
+    pub(crate) fn poll(&mut self, address: u32, wanted: u8) -> Verdict
+        ensures verdict { result ≡ poll_verdict (view self.old.chip) address wanted }
+        ensures chip { view self.new.chip ≡ polled (view self.old.chip) address }
+    {
+        self.wait(1);
+        judge(self.see(address), wanted)
+    }
+
+    // One microsecond, then two reads: whether they agree in the toggle bit.
+    pub(crate) fn still(&mut self, address: u32) -> bool
+        ensures answer { result ≡ stands_still (view self.old.chip) address }
+        ensures chip { view self.new.chip ≡ twice_seen (view self.old.chip) address }
+    {
+        self.wait(1);
+        let first = self.see(address);
+        let second = self.see(address);
+        first / 64 % 2 == second / 64 % 2
+    }
 }

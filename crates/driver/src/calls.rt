@@ -5,7 +5,6 @@ ghost use Rattle.chip.proofs.PassLaws.{all_sound};
 ghost use Rattle.driver.specs.Tying;
 
 use crate::driven::Driven;
-use crate::suspend::{resume, suspend};
 use geometry::Block;
 use part::{Part, PartFault, Progress, Shape, Standing, Turn};
 use refusal::Cause;
@@ -13,18 +12,19 @@ use refusal::Cause;
 impl Part for Driven {
     ghost means = { meaning };
 
-    ghost lawful = { λ s. Tying.lawful (view s.chip) s.standing (all_sound s.chip) s.follows };
+    ghost lawful = { λ s. Tying.lawful (view s.bus.chip) s.standing (all_sound s.bus.chip) s.follows };
 
     fn shape(&self) -> Shape {
         Shape {
-            size: self.chip.size(),
+            size: self.bus.chip.size(),
             blocks: self.count(),
             standing: self.standing,
         }
     }
 
+    #[tactic(auto, using(crate::proofs::Calling::same_block))]
     fn block(&self, number: u32) -> Option<Block> {
-        self.chip.block(number as usize)
+        self.bus.chip.block(number as usize)
     }
 
     fn guarded(&self, block: u32) -> bool {
@@ -32,9 +32,10 @@ impl Part for Driven {
     }
 
     fn clock(&self) -> u32 {
-        self.chip.clock()
+        self.bus.chip.clock()
     }
 
+    #[tactic(auto, using(crate::proofs::Calling::read_broke, crate::proofs::Calling::read_gave, crate::proofs::Calling::peek_outside, crate::proofs::Calling::peek_hidden, crate::proofs::Calling::peek_free))]
     fn peek(&mut self, address: u32) -> Result<u8, PartFault> {
         let seen = self.read(address)?;
         if self.hides(address) {
@@ -65,10 +66,11 @@ impl Part for Driven {
         Ok(())
     }
 
+    #[tactic(auto, using(crate::proofs::Holding::held_driven, chip::proofs::PassLaws::all_sound))]
     fn hold(&mut self) -> Turn {
         match self.standing {
             Standing::Running(block) => {
-                suspend(&mut self.chip);
+                self.bus.suspend();
                 self.standing = Standing::Suspended(block);
                 Turn::Done
             }
@@ -79,7 +81,7 @@ impl Part for Driven {
     fn go_on(&mut self) -> Turn {
         match self.standing {
             Standing::Suspended(block) => {
-                resume(&mut self.chip);
+                self.bus.resume();
                 self.standing = Standing::Running(block);
                 Turn::Done
             }

@@ -7,27 +7,29 @@ ghost use Rattle.driver.specs.Means.{means};
 ghost use Rattle.driver.specs.Steps.{progress_of, stands_after};
 
 use crate::driven::Driven;
-use crate::erase::look;
 use crate::verdict::Verdict;
 use part::{PartFault, Progress, Standing};
 
-fn progress_of(verdict: Verdict) -> Progress
-    ensures { result ≡ progress_of verdict }
-{
-    match verdict {
-        Verdict::Busy => Progress::Running,
-        Verdict::Done => Progress::Finished,
-        Verdict::Failed => Progress::Worn,
+// What a look at the end of a pass tells of the erasure.
+impl From<Verdict> for Progress {
+    ghost from_gives = { λ v r. r ≡ progress_of v };
+
+    fn from(verdict: Verdict) -> Progress {
+        match verdict {
+            Verdict::Busy => Progress::Running,
+            Verdict::Done => Progress::Finished,
+            Verdict::Failed => Progress::Worn,
+        }
     }
 }
 
 fn stands_after(block: u32, verdict: Verdict) -> Standing
     ensures { result ≡ stands_after block verdict }
 {
-    match verdict {
-        Verdict::Busy => Standing::Running(block),
-        Verdict::Done => Standing::Idle,
-        Verdict::Failed => Standing::Idle,
+    if verdict == Verdict::Busy {
+        Standing::Running(block)
+    } else {
+        Standing::Idle
     }
 }
 
@@ -38,8 +40,7 @@ impl Driven {
         ensures answer { result ≡ answer (pass_no n) n tt }
         ensures passed { means self.new ≡ after_pass (means self.old) n }
     {
-        self.chip.pass(n)?;
-        Ok(())
+        Ok(self.bus.chip.pass(n)?)
     }
 
     // Lets time pass on a running erasure: one passing of time and one read.
@@ -49,9 +50,9 @@ impl Driven {
         ensures passed { means self.new ≡ after_pass (means self.old) n }
     {
         let at = self.start_of(block);
-        self.chip.pass(n)?;
-        let verdict = look(&mut self.chip, at);
+        self.bus.chip.pass(n)?;
+        let verdict = self.bus.look(at);
         self.standing = stands_after(block, verdict);
-        Ok(progress_of(verdict))
+        Ok(verdict.into())
     }
 }

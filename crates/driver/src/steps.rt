@@ -1,21 +1,14 @@
 // The steps of the driver's calls.
 ghost use Rattle.std.specs.Prelude.{◌≡◌, None, slice_index};
 ghost use Rattle.geometry.specs.Plans.{plan_of};
-ghost use Rattle.part.specs.Calls.{answer, needs_erase, begin_no, Started};
+ghost use Rattle.part.specs.Calls.{answer, begin_no, Started};
 ghost use Rattle.driver.specs.Means.{means};
 ghost use Rattle.driver.specs.Steps.{Read, burn_why, Burns, Programmed};
 
 use crate::driven::Driven;
-use crate::erase::erase;
-use crate::program::program;
+use chip::needs_erase;
 use part::{PartFault, Standing, granted};
 use refusal::Cause;
-
-fn needs_erase(old: u8, byte: u8) -> bool
-    ensures { result ≡ needs_erase old byte }
-{
-    old & byte != byte
-}
 
 impl Driven {
     // One read cycle: a cell, unless an erasure hides it.
@@ -23,8 +16,7 @@ impl Driven {
         ensures answer { Read (means self.old) address result }
         ensures same { means self.new ≡ means self.old }
     {
-        let byte = self.chip.read(address)?;
-        Ok(byte)
+        Ok(self.bus.chip.read(address)?)
     }
 
     fn burn_no(&self, address: u32, old: u8, byte: u8) -> Option<Cause>
@@ -53,9 +45,10 @@ impl Driven {
         requires { Burns (means self.old) address byte }
         ensures { Programmed (means self.old) address byte result (means self.new) }
     {
-        program(&mut self.chip, address, byte)
+        self.bus.program(address, byte)
     }
 
+    // The array asks the same of its own record (see there why each has its own).
     fn begin_no(&self, block: u32) -> Option<Cause>
         ensures { result ≡ begin_no (means self.now) block }
     {
@@ -78,13 +71,11 @@ impl Driven {
     }
 
     // The address at which a block begins; 0 where there is no such block.
+    #[tactic(auto, using(crate::proofs::Burning::no_start))]
     pub(crate) fn start_of(&self, block: u32) -> u32
-        ensures { result ≡ slice_index (plan_of self.now.chip.setup.kind).starts block }
+        ensures { result ≡ slice_index (plan_of self.now.bus.chip.setup.kind).starts block }
     {
-        match self.chip.block(block as usize) {
-            Some(at) => at.start,
-            None => 0,
-        }
+        self.bus.chip.block(block as usize).map_or(0, |at| at.start)
     }
 
     // Begins the erasure of a block that may be erased.
@@ -93,7 +84,7 @@ impl Driven {
         ensures { Started (means self.old) block (means self.new) }
     {
         let at = self.start_of(block);
-        erase(&mut self.chip, at);
+        self.bus.erase(at);
         self.standing = Standing::Running(block);
     }
 }

@@ -4,37 +4,39 @@ ghost use Rattle.chip.specs.declared.state.State.TheVariants.{Erasing, Suspendin
 ghost use Rattle.chip.specs.Flash.{view, with_state, inside};
 ghost use Rattle.driver.specs.Work.{erase_of, Halted};
 
-use crate::bus::{put, still};
-use chip::Chip;
+use crate::bus::Bus;
 
-// Waits until the toggle bit stands still.
-fn settle(chip: &mut Chip)
-    requires inside { inside (view chip.old) 0 ≡ true }
-    requires begun { (view chip.old).state ≡ Suspending (erase_of (view chip.old).state) (view chip.old).setup.suspend }
-    ensures { Halted (view chip.old) (view chip.old).setup.suspend (view chip.new) }
-{
-    for turn in 0..15u32 {
-        if still(chip, 0) {
-            return;
+impl Bus {
+    // Waits until the toggle bit stands still.
+    fn settle(&mut self)
+        requires inside { inside (view self.old.chip) 0 ≡ true }
+        requires begun { (view self.old.chip).state ≡ Suspending (erase_of (view self.old.chip).state) (view self.old.chip).setup.suspend }
+        ensures { Halted (view self.old.chip) (view self.old.chip).setup.suspend (view self.new.chip) }
+    {
+        for _turn in 0..15u32 {
+            if self.still(0) {
+                return;
+            }
         }
     }
-}
 
-// Suspends a running erase, and waits until the chip is suspended.
-pub(crate) fn suspend(chip: &mut Chip)
-    requires inside { inside (view chip.old) 0 ≡ true }
-    requires runs { (view chip.old).state ≡ Erasing (erase_of (view chip.old).state) }
-    ensures { Halted (view chip.old) (view chip.old).setup.suspend (view chip.new) }
-{
-    put(chip, 0, 0xB0);
-    settle(chip);
-}
+    // Suspends a running erase, and waits until the chip is suspended.
+    #[tactic(auto, using(crate::proofs::Halting::begins_halt, crate::proofs::Halting::same_halt))]
+    pub(crate) fn suspend(&mut self)
+        requires inside { inside (view self.old.chip) 0 ≡ true }
+        requires runs { (view self.old.chip).state ≡ Erasing (erase_of (view self.old.chip).state) }
+        ensures { Halted (view self.old.chip) (view self.old.chip).setup.suspend (view self.new.chip) }
+    {
+        self.put(0, 0xB0);
+        self.settle();
+    }
 
-// Goes on with a suspended erase.
-pub(crate) fn resume(chip: &mut Chip)
-    requires inside { inside (view chip.old) 0 ≡ true }
-    requires stands { (view chip.old).state ≡ Suspended (erase_of (view chip.old).state) }
-    ensures { view chip.new ≡ with_state (view chip.old) (Erasing (erase_of (view chip.old).state)) }
-{
-    put(chip, 0, 0x30);
+    // Goes on with a suspended erase.
+    pub(crate) fn resume(&mut self)
+        requires inside { inside (view self.old.chip) 0 ≡ true }
+        requires stands { (view self.old.chip).state ≡ Suspended (erase_of (view self.old.chip).state) }
+        ensures { view self.new.chip ≡ with_state (view self.old.chip) (Erasing (erase_of (view self.old.chip).state)) }
+    {
+        self.put(0, 0x30);
+    }
 }

@@ -4,27 +4,20 @@
 mod cycle;
 mod table;
 
-use chip::Setup;
 use cycle::Cycle;
-use workbench::{Trouble, blank_chip};
+use table::{EXAMPLES, Example};
+use workbench::{BENCH_CHIP, Trouble, blank_chip};
 
-const SETUP: Setup = Setup {
-    kind: geometry::BENCH,
-    program: 16,
-    erase: 1000,
-    suspend: 15,
-    protected: 0,
-    worn: 0,
-};
-
-// Runs the cycles on a fresh chip, prints the bytes that are read, and says whether they are the expected ones.
-fn run(rt: &HostRuntime, name: &str, cycles: &[Cycle]) -> Result<(), Trouble> {
-    let mut chip = blank_chip(rt.alloc(), SETUP)?;
+// Runs an example on a fresh chip, prints the bytes that are read, and says whether they are the expected ones.
+fn run(rt: &HostRuntime, example: &Example) -> Result<(), Trouble> {
+    let mut chip = blank_chip(rt.alloc(), BENCH_CHIP)?;
     let mut right = true;
-    print!(rt; "{name}:")?;
-    for cycle in cycles {
-        match *cycle {
+    print!(rt; "{}:", example.name)?;
+    for &cycle in example.cycles {
+        match cycle {
             Cycle::Write(address, byte) => chip.write(address, byte)?,
+            Cycle::Program(address, byte) => workbench::program(&mut chip, address, byte)?,
+            Cycle::Erase(address) => workbench::erase(&mut chip, address)?,
             Cycle::Wait(n) => chip.pass(n)?,
             Cycle::Read(address, expected) => {
                 let byte = chip.read(address)?;
@@ -39,18 +32,8 @@ fn run(rt: &HostRuntime, name: &str, cycles: &[Cycle]) -> Result<(), Trouble> {
 }
 
 fn main(rt: HostRuntime) -> Result<(), Trouble> {
-    run(&rt, "41h at 400h, then 15 us, then 1 us", &table::PROGRAM)?;
-    run(&rt, "41h over 40h", &table::OVER)?;
-    run(&rt, "erase of block 1", &table::ERASE)?;
-    run(
-        &rt,
-        "a second block after 49 us, 2,050 us later",
-        &table::SECOND_BLOCK,
-    )?;
-    run(
-        &rt,
-        "a second block after 49 us, 2,049 us later",
-        &table::TOO_EARLY,
-    )?;
-    run(&rt, "suspension at 14 us and at 15 us", &table::SUSPEND)
+    for example in EXAMPLES {
+        run(&rt, example)?;
+    }
+    Ok(())
 }

@@ -1,30 +1,19 @@
 -- Masks of blocks, bit by bit.
-use Rattle.std.proofs.Common.{◌≡◌, ℕ, zero, suc, ◌+◌, ◌-◌, ◌*◌, ◌/◌, ◌%◌, ◌^◌, ◌<◌, min, Bool, true, false, cond, not, ◌&&◌, eqb, ◌⊎◌, sym, refl, ap, ◌∙◌, inl, inr, arith}
-use native.Mathlib.Nat.{zero-div}
-use lib.Bits.{bit_and, bit_xor, and_shr, and_mod, and_step, xor_shr, xor_mod, shifted_half, shifted_even}
+use Rattle.std.proofs.Common.{◌≡◌, ℕ, zero, suc, ◌+◌, ◌-◌, ◌*◌, ◌/◌, ◌%◌, ◌^◌, ◌<◌, min, Bool, true, cond, not, ◌&&◌, eqb, ◌⊎◌, refl, ap, ◌∙◌, inl, inr, arith}
+use Rattle.std.specs.Int.{bit_at}
+use lib.Bits.{bit_and, bit_xor}
 use lib.Count.{ones}
-use Rattle.std.proofs.lemmas.Bool.{and_parts, eqb-true, ne_eqb, cases_lt}
-use Rattle.std.proofs.lemmas.Nat.{shr-shr, field_of, mod-pow-add}
+use Rattle.std.proofs.lemmas.Bool.{and_parts, eqb-true, eq-eqb, ne_eqb, cases_lt, cases_eq}
+use Rattle.std.proofs.lemmas.Nat.{and_comm, field_of, mod-pow-add}
+use Rattle.std.proofs.lemmas.Nat.Bits.{bit_at-lt, bit_at_and, bit_at_xor, bit_at_ones, bit_at-pow_same, bit_at-pow_other, and_pow}
 use Rattle.std.proofs.lemmas.Bool.Decides.{nat_tests}
 use Rattle.geometry.specs.Blocks.{bit}
 
-digit_and : (x y : ℕ) → x < 2 → y < 2 → eqb (bit_and x y) 1 ≡ (eqb x 1 && eqb y 1)
-digit_and zero y h k = refl
-digit_and (suc zero) zero h k = refl
-digit_and (suc zero) (suc zero) h k = refl
-digit_and (suc zero) (suc (suc y)) h k = absurd (omega arith)
-digit_and (suc (suc x)) y h k = absurd (omega arith)
-
 pub bit_of_and : (m n b : ℕ) → bit (bit_and m n) b ≡ (bit m b && bit n b)
-bit_of_and m n b =
-    let e : bit_and m n / 2 ^ b % 2 ≡ bit_and (m / 2 ^ b % 2) (n / 2 ^ b % 2) =
-    ap (λ (x : ℕ). x % 2) (and_shr m n b) ∙ and_mod (m / 2 ^ b) (n / 2 ^ b) 1 in
-    ap (λ (x : ℕ). eqb x 1) e ∙ digit_and (m / 2 ^ b % 2) (n / 2 ^ b % 2) (omega arith) (omega arith)
-
-digit_not : (x : ℕ) → x < 2 → eqb (bit_xor x 1) 1 ≡ not (eqb x 1)
-digit_not zero h = refl
-digit_not (suc zero) h = refl
-digit_not (suc (suc x)) h = absurd (omega arith)
+bit_of_and m n b = ap (λ (x : ℕ). eqb x 1) (bit_at_and m n b) ∙ both (bit_at m b) (bit_at n b) (bit_at-lt m b) (bit_at-lt n b)
+  where
+    both : (x y : ℕ) → x < 2 → y < 2 → eqb (min x y) 1 ≡ (eqb x 1 && eqb y 1)
+    both x y h k = grind (arith, nat_tests)
 
 -- a test that passes at each number below n
 abbrev pub below : ℕ → (ℕ → Bool) → Bool
@@ -43,61 +32,27 @@ at_below (suc n) p t b h =
 -- the blocks that are not in a mask, out of blocks 0 to 10
 pub bit_not : (m b : ℕ) → b < 11 → bit (bit_xor m 0x7FF) b ≡ not (bit m b)
 bit_not m b h =
-    let one : 0x7FF / 2 ^ b % 2 ≡ 1 = eqb-true _ _ (at_below 11 (λ (i : ℕ). eqb (0x7FF / 2 ^ i % 2) 1) refl b h) in
-    let e : bit_xor m 0x7FF / 2 ^ b % 2 ≡ bit_xor (m / 2 ^ b % 2) (0x7FF / 2 ^ b % 2) =
-    ap (λ (x : ℕ). x % 2) (xor_shr m 0x7FF b) ∙ xor_mod (m / 2 ^ b) (0x7FF / 2 ^ b) 1 in
-    ap (λ (x : ℕ). eqb x 1) (e ∙ ap (bit_xor (m / 2 ^ b % 2)) one) ∙ digit_not (m / 2 ^ b % 2) (omega arith)
+    ap (λ (x : ℕ). eqb x 1) (bit_at_xor m 0x7FF b ∙ ap (λ (x : ℕ). (bit_at m b + x) % 2) (bit_at_ones 11 b h))
+    ∙ other (bit_at m b) (bit_at-lt m b)
+  where
+    other : (x : ℕ) → x < 2 → eqb ((x + 1) % 2) 1 ≡ not (eqb x 1)
+    other x k = grind (arith, nat_tests)
 
 -- The mask of one block.
-half_pow : (b : ℕ) → 2 ^ suc b / 2 ≡ 2 ^ b
-half_pow b =
-    let e : 1 * 2 ^ suc b ≡ 2 ^ suc b = omega arith in
-    let f : 1 * 2 ^ b ≡ 2 ^ b = omega arith in
-    ap (λ (x : ℕ). x / 2) (sym e) ∙ shifted_half 1 b ∙ f
-
-even_pow : (b : ℕ) → 2 ^ suc b % 2 ≡ 0
-even_pow b =
-    let e : 1 * 2 ^ suc b ≡ 2 ^ suc b = omega arith in
-    ap (λ (x : ℕ). x % 2) (sym e) ∙ shifted_even 1 b
-
-bit_first : (m : ℕ) → bit m 0 ≡ eqb (m % 2) 1
-bit_first m = let e : m / 1 % 2 ≡ m % 2 = omega arith in ap (λ (x : ℕ). eqb x 1) e
-
-bit_next : (m b : ℕ) → bit m (suc b) ≡ bit (m / 2) b
-bit_next m b =
-    let e : 1 + b ≡ suc b = omega arith in
-    ap (λ (x : ℕ). eqb (m / 2 ^ x % 2) 1) (sym e) ∙ ap (λ (x : ℕ). eqb (x % 2) 1) (sym (shr-shr m 1 b))
-
 pub bit_one : (b c : ℕ) → bit (2 ^ b) c ≡ eqb c b
-bit_one zero zero = refl
-bit_one zero (suc c) =
-    let z : (0 / 2 ^ c) % 2 ≡ 0 = rw zero-div in
-    bit_next 1 c ∙ ap (λ (x : ℕ). eqb x 1) z ∙ sym (ne_eqb (suc c) 0 (λ e. omega arith))
-bit_one (suc b) zero = bit_first (2 ^ suc b) ∙ ap (λ (x : ℕ). eqb x 1) (even_pow b) ∙ sym (ne_eqb 0 (suc b) (λ e. omega arith))
-bit_one (suc b) (suc c) =
-    let e : eqb (suc c) (suc b) ≡ eqb c b = grind (arith, nat_tests) in
-    bit_next (2 ^ suc b) c ∙ ap (λ (x : ℕ). bit x c) (half_pow b) ∙ bit_one b c ∙ sym e
+bit_one b c =
+    elim (cases_eq c b) [
+      | inl e ↦ rw (e, bit_at-pow_same b, eq-eqb b b)
+      | inr n ↦ rw (bit_at-pow_other b c n, ne_eqb c b n)
+    ]
 
 pub and_one : (b x : ℕ) → bit_and (2 ^ b) x ≡ cond (bit x b) (2 ^ b) 0
-and_one zero x = and_step 1 x ∙ last (x % 2) (omega arith) ∙ ap (λ (t : Bool). cond t 1 0) (sym (bit_first x))
+and_one b x = and_comm (2 ^ b) x ∙ and_pow x b ∙ by (bit_at x b) (bit_at-lt x b)
   where
-    last : (y : ℕ) → y < 2 → bit_and (1 / 2) (x / 2) * 2 + min (1 % 2) y ≡ cond (eqb y 1) 1 0
-    last zero h = refl
-    last (suc zero) h = refl
-    last (suc (suc y)) h = absurd (omega arith)
-and_one (suc b) x =
-    let a : bit_and (2 ^ suc b / 2) (x / 2) ≡ cond (bit (x / 2) b) (2 ^ b) 0 =
-    ap (λ (y : ℕ). bit_and y (x / 2)) (half_pow b) ∙ and_one b (x / 2) in
-    let m : min (2 ^ suc b % 2) (x % 2) ≡ 0 = omega (arith, even_pow b) in
-    let d : cond (bit (x / 2) b) (2 ^ b) 0 * 2 + 0 ≡ cond (bit (x / 2) b) (2 ^ suc b) 0 = twice (bit (x / 2) b) in
-    and_step (2 ^ suc b) x
-    ∙ ap (λ (y : ℕ). y * 2 + min (2 ^ suc b % 2) (x % 2)) a
-    ∙ ap (λ (y : ℕ). cond (bit (x / 2) b) (2 ^ b) 0 * 2 + y) m
-    ∙ d ∙ ap (λ (t : Bool). cond t (2 ^ suc b) 0) (sym (bit_next x b))
-  where
-    twice : (t : Bool) → cond t (2 ^ b) 0 * 2 + 0 ≡ cond t (2 ^ suc b) 0
-    twice true = omega (arith, half_pow b, even_pow b)
-    twice false = refl
+    by : (y : ℕ) → y < 2 → y * 2 ^ b ≡ cond (eqb y 1) (2 ^ b) 0
+    by zero h = omega arith
+    by (suc zero) h = omega arith
+    by (suc (suc y)) h = absurd (omega arith)
 
 pub ones_one : (b : ℕ) → b < 11 → ones (2 ^ b) ≡ 1
 unfolding ones

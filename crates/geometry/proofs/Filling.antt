@@ -1,26 +1,41 @@
 -- What filling some blocks does to each cell.
-use Rattle.std.proofs.Common.{◌≡◌, ℕ, suc, ◌+◌, ◌-◌, ◌<◌, ◌≤◌, min, Bool, true, false, cond, ◌&&◌, eqb, ltb, leb, List, [], ◌∷◌, ◌++◌, map, length, get_or, take, drop, set, refl, ap, ◌∙◌, inl, inr, arith}
-use Rattle.std.proofs.lemmas.List.{length-take, length-drop, length-append, length-map, get_or_append_left, get_or-append_right, get_or-take, get_or-drop, get_or-map, get_or-set_same, get_or-set_other}
-use Rattle.std.proofs.lemmas.Bool.{lt-ltb, le-ltb, le-leb, eq-eqb, ne_eqb, cases_lt, cases_eq}
+use Rattle.std.proofs.Common.{◌≡◌, ℕ, suc, ◌+◌, ◌-◌, ◌<◌, min, Bool, true, false, cond, ◌&&◌, eqb, ltb, leb, List, [], ◌∷◌, ◌++◌, map, length, get_or, take, drop, replicate, refl, ap, ◌∙◌, inl, inr, arith}
+use Rattle.std.proofs.lemmas.List.{length-take, length-drop, length-append, length-map, get_or_append_left, get_or-append_right, get_or-take, get_or-drop, get_or-map, length-replicate, get_or-replicate}
+use Rattle.std.proofs.lemmas.Bool.{lt-ltb, le-ltb, le-leb, lt-leb, eq-eqb, ne_eqb, cases_lt, cases_eq}
 use Rattle.std.proofs.lemmas.Bool.Decides.{nat_tests}
 use Rattle.geometry.specs.Blocks.{start_of, block_of, bit, filled_from, filled}
 use Rattle.geometry.proofs.Placing.{stretch_is}
 
--- One cell more of a stretch that is being set to v.
-pub stretch_more : (xs ys : List ℕ) (from at v k : ℕ) → from ≤ at → at < length ys
-    → get_or ys k 0 ≡ cond (leb from k && ltb k at) v (get_or xs k 0)
-    → get_or (set ys at v) k 0 ≡ cond (leb from k && ltb k (at + 1)) v (get_or xs k 0)
-stretch_more xs ys from at v k f l e =
-    elim (cases_eq k at) [
-      | inl s ↦
-          let same : get_or (set ys at v) k 0 ≡ v = rw s (get_or-set_same ys at v 0 l) in
+-- A stretch from `from` on, `width` cells long, that is set to v as far as there are cells: s and e are where it begins and ends there.
+pub stretch_set : (xs : List ℕ) (from width v s e k : ℕ) → s ≡ min from (length xs) → e ≡ min (s + width) (length xs) → k < length xs
+    → get_or (take s xs ++ (replicate (e - s) v ++ drop (e - s) (drop s xs))) k 0 ≡ cond (leb from k && ltb k (from + width)) v (get_or xs k 0)
+stretch_set xs from width v s e k hs he hk =
+    let before : List ℕ = take s xs in
+    let here : List ℕ = replicate (e - s) v in
+    let after : List ℕ = drop (e - s) (drop s xs) in
+    let long : length before ≡ s = length-take s xs ∙ omega arith in
+    elim (cases_lt k s) [
+      | inl l ↦
+          let a : get_or (before ++ (here ++ after)) k 0 ≡ get_or xs k 0 = get_or_append_left before (here ++ after) 0 k (omega arith) ∙ get_or-take s xs k 0 l in
+          let low : leb from k ≡ false = lt-leb from k (omega arith) in
+          rw (a, low)
+      | inr l ↦
+          let a : get_or (before ++ (here ++ after)) k 0 ≡ get_or (here ++ after) (k - s) 0 = get_or-append_right before (here ++ after) s k 0 long l in
           let low : leb from k ≡ true = le-leb from k (omega arith) in
-          let high : ltb k (at + 1) ≡ true = lt-ltb k (at + 1) (omega arith) in
-          rw (same, low, high)
-      | inr n ↦
-          let other : get_or (set ys at v) k 0 ≡ get_or ys k 0 = get_or-set_other ys at k v 0 n in
-          let high : ltb k (at + 1) ≡ ltb k at = grind (arith, nat_tests) in
-          rw (other, high) e
+          elim (cases_lt k e) [
+            | inl m ↦
+                let b : get_or (here ++ after) (k - s) 0 ≡ get_or here (k - s) 0 = get_or_append_left here after 0 (k - s) (simp length-replicate (omega arith)) in
+                let c : get_or here (k - s) 0 ≡ v = get_or-replicate (e - s) (k - s) v 0 (omega arith) in
+                let high : ltb k (from + width) ≡ true = lt-ltb k (from + width) (omega arith) in
+                rw (a, b, c, low, high)
+            | inr m ↦
+                let b : get_or (here ++ after) (k - s) 0 ≡ get_or after (k - s - (e - s)) 0 = get_or-append_right here after (e - s) (k - s) 0 (length-replicate (e - s) v) (omega arith) in
+                let c : get_or after (k - s - (e - s)) 0 ≡ get_or xs k 0 =
+                get_or-drop (e - s) (drop s xs) (k - s - (e - s)) 0
+                ∙ get_or-drop s xs (e - s + (k - s - (e - s))) 0 ∙ ap (λ (i : ℕ). get_or xs i 0) (omega arith) in
+                let high : ltb k (from + width) ≡ false = le-ltb k (from + width) (omega arith) in
+                rw (a, b, c, low, high)
+          ]
     ]
 
 -- one block, filled or left as it is

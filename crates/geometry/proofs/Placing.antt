@@ -1,9 +1,12 @@
 -- Where the blocks of a row lie, and which block an address lies in.
-use Rattle.std.proofs.Common.{◌≡◌, ℕ, zero, suc, ◌+◌, ◌-◌, ◌<◌, ◌≤◌, true, false, ◌&&◌, eqb, ltb, leb, List, [], ◌∷◌, length, get_or, drop, sym, refl, ◌∙◌, inl, inr, add-one, arith, lit≤}
-use Rattle.std.proofs.lemmas.List.{drop_more, drop_all}
+use Rattle.std.proofs.Common.{◌≡◌, ℕ, zero, suc, ◌+◌, ◌-◌, ◌<◌, ◌≤◌, true, false, ◌&&◌, eqb, ltb, leb, List, [], ◌∷◌, length, get_or, sym, refl, ap, ◌∙◌, inl, inr, add-one, arith, lit≤}
+use Rattle.std.specs.List.{position_or_len, position}
+use Rattle.std.specs.Option.{unwrap_or}
+use Rattle.std.proofs.lemmas.List.{length-map, get_or-map}
 use Rattle.std.proofs.lemmas.Bool.{lt-ltb, le-ltb, cases_lt, and_parts, eqb-true, false≢true, cond_both, cases_eq, cases_Bool, eq-eqb, ne_eqb, le-leb, leb-true, ltb-true}
+use Rattle.geometry.specs.declared.block.Block.{Block}
 use Rattle.geometry.specs.Blocks.{total, start_of, block_of}
-use Rattle.geometry.specs.Plans.{Plan, top, bottom, bench, dead, plan_of, contiguous, Contiguous, LaidOut}
+use Rattle.geometry.specs.Plans.{Plan, top, bottom, bench, dead, plan_of, starts_of, sizes_of, holds, contiguous, Contiguous, LaidOut}
 
 -- Block b reaches from its start to its end, and holds no other address.
 pub block_is : (sizes : List ℕ) (k b : ℕ) → b < length sizes → start_of sizes b ≤ k → k < start_of sizes b + get_or sizes b 0
@@ -92,16 +95,45 @@ laid_out p t =
           ∙ block_is p.sizes a c lc (omega (arith, at c lc)) (omega (arith, at c lc));
     }
 
--- The walk from block to block: at block i, with `left` the address less the sizes of the blocks before.
-pub walk_here : (sizes : List ℕ) (i left : ℕ) → i < length sizes → left < get_or sizes i 0 → block_of (drop i sizes) left ≡ 0
-walk_here sizes i left l h = rw (drop_more sizes i 0 l, lt-ltb left (get_or sizes i 0) h)
+-- The first block that holds an address is the one that the address lies in.
+found : (blocks : List Block) (from end a : ℕ) → contiguous from (starts_of blocks) (sizes_of blocks) end ≡ true → from ≤ a
+    → position_or_len (holds a) blocks ≡ block_of (sizes_of blocks) (a - from)
+found [] from end a t h = refl
+found (b ∷ bs) from end a t h =
+    let parts = and_parts _ _ t in
+    let begins : b.start ≡ from = eqb-true b.start from (and_parts _ _ parts.0).0 in
+    elim (cases_lt (a - from) b.size) [
+      | inl l ↦ rw (lt-ltb (a - from) b.size l, le-leb b.start a (omega arith), lt-ltb a (b.start + b.size) (omega arith))
+      | inr l ↦
+          let e : a - from - b.size ≡ a - (from + b.size) = omega arith in
+          rw (le-ltb (a - from) b.size l, le-ltb a (b.start + b.size) (omega arith), le-leb b.start a (omega arith), e)
+          (ap (λ (n : ℕ). 1 + n) (found bs (from + b.size) end a parts.1 (omega arith)))
+    ]
 
-pub walk_on : (sizes : List ℕ) (i left : ℕ) → i < length sizes → get_or sizes i 0 ≤ left
-    → block_of (drop i sizes) left ≡ 1 + block_of (drop (i + 1) sizes) (left - get_or sizes i 0)
-walk_on sizes i left l h = rw (drop_more sizes i 0 l, le-ltb left (get_or sizes i 0) h)
+-- A table has a block for each size of the plan, with its start and its size.
+pub table_long : (blocks : List Block) (sizes : List ℕ) → sizes_of blocks ≡ sizes → length blocks ≡ length sizes
+table_long blocks sizes w = sym (length-map blocks (λ (b : Block). b.size)) ∙ ap (λ (xs : List ℕ). length xs) w
 
-pub walk_off : (sizes : List ℕ) (i left : ℕ) → length sizes ≤ i → block_of (drop i sizes) left ≡ 0
-walk_off sizes i left h = rw (drop_all i sizes h)
+pub table_block : (p : Plan) (blocks : List Block) (b : ℕ) (none : Block) → Contiguous p → starts_of blocks ≡ p.starts → sizes_of blocks ≡ p.sizes
+    → b < length p.sizes → ((get_or blocks b none).start ≡ start_of p.sizes b) × ((get_or blocks b none).size ≡ get_or p.sizes b 0)
+table_block p blocks b none t s w l =
+    let h : b < length blocks = omega (arith, table_long blocks p.sizes w) in
+    let at : get_or p.starts b 0 ≡ start_of p.sizes b = omega (arith, table_start 0 p.starts p.sizes p.size t b l) in (
+      sym (get_or-map (λ (x : Block). x.start) blocks b none 0 h) ∙ ap (λ (xs : List ℕ). get_or xs b 0) s ∙ at,
+      sym (get_or-map (λ (x : Block). x.size) blocks b none 0 h) ∙ ap (λ (xs : List ℕ). get_or xs b 0) w,
+    )
+
+pub holder_is : (p : Plan) (blocks : List Block) (a n : ℕ) → Contiguous p → starts_of blocks ≡ p.starts → sizes_of blocks ≡ p.sizes
+    → n ≡ length p.sizes → unwrap_or (position (holds a) blocks) n ≡ block_of p.sizes a
+holder_is p blocks a n t s w e =
+    let f : position_or_len (holds a) blocks ≡ block_of (sizes_of blocks) (a - 0) = found blocks 0 p.size a (rw (s, w) t) (omega arith) in
+    let z : a - 0 ≡ a = omega arith in
+    let g : position_or_len (holds a) blocks ≡ block_of p.sizes a = rw (w, z) at f in
+    let l : length blocks ≡ length p.sizes = table_long blocks p.sizes w in
+    elim (cases_lt (position_or_len (holds a) blocks) (length blocks)) [
+      | inl h ↦ rw (lt-ltb (position_or_len (holds a) blocks) (length blocks) h) g
+      | inr h ↦ rw (le-ltb (position_or_len (holds a) blocks) (length blocks) h) (omega (arith, block_le p.sizes a))
+    ]
 
 -- What holds of each of the four plans holds of the plan of every number.
 pub every_plan : (P : Plan → Type 0) → P top → P bottom → P bench → P dead → (kind : ℕ) → P (plan_of kind)

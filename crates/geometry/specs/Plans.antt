@@ -1,6 +1,6 @@
 -- The geometries: for each its size, its device code, and its blocks with their starts and sizes.
-use Rattle.std.specs.Prelude.{◌≡◌, ℕ, ◌+◌, ◌<◌, ◌≤◌, Bool, true, false, cond, ◌&&◌, List, [], ◌∷◌, length, Some, None, Option, ◌==◌, nat_lt, slice_index}
-use Rattle.geometry.specs.declared.tables.Block.{Block}
+use Rattle.std.specs.Prelude.{◌≡◌, ℕ, ◌+◌, ◌<◌, ◌≤◌, Bool, true, false, cond, ◌&&◌, List, [], ◌∷◌, map, length, Some, None, Option, ◌==◌, nat_le, nat_lt, slice_index}
+use Rattle.geometry.specs.declared.block.Block.{Block}
 
 pub record Plan : Type 0 where
   pub size : ℕ
@@ -42,6 +42,17 @@ dead = record { size = 0; code = 0; starts = []; sizes = [] }
 -- The plain numbers of the geometries. Every other number is no chip.
 abbrev pub plan_of : ℕ → Plan
 plan_of kind = cond (kind == 0) top (cond (kind == 1) bottom (cond (kind == 2) bench dead))
+
+-- the starts and the sizes of the blocks of a table
+abbrev pub starts_of : List Block → List ℕ
+starts_of blocks = map (λ b. b.start) blocks
+
+abbrev pub sizes_of : List Block → List ℕ
+sizes_of blocks = map (λ b. b.size) blocks
+
+-- an address lies in a block
+abbrev pub holds : ℕ → Block → Bool
+holds a b = nat_le b.start a && nat_lt a (b.start + b.size)
 
 -- block b of a plan
 abbrev pub block_at : Plan → ℕ → Option Block

@@ -1,10 +1,12 @@
 // The geometries: how large each chip is, and where its blocks lie.
 #![tactic(auto)]
 
+mod block;
 mod kinds;
 mod tables;
 mod walk;
 
-pub use kinds::{BENCH, BOTTOM, DEAD, TOP, block_at, code, count, fill, nth_block, size};
-pub use tables::{Bench, Block, Bottom, Dead, Geometry, Top};
-pub use walk::{cell_at, fill_range};
+pub use block::{Block, is_marked};
+pub use kinds::{BENCH, BOTTOM, DEAD, TOP, block_at, code, count, fill, nth_block, size, table};
+pub use tables::{Bench, Bottom, Dead, Geometry, Top};
+pub use walk::cell_at;

@@ -1,45 +1,40 @@
-ghost use Rattle.std.specs.Prelude.{◌≡◌, ◌≤◌, length, slice_index};
-ghost use Rattle.geometry.specs.Plans.{Plan, top, bottom, bench, dead, Contiguous};
+// The geometries, each with the table of its blocks.
+ghost use Rattle.std.specs.Prelude.{◌≡◌, ℕ, ◌≤◌, length};
+ghost use Rattle.geometry.specs.Plans.{Plan, top, bottom, bench, dead, starts_of, sizes_of, Contiguous};
 ghost use Rattle.std.proofs.Common.{rules};
 
-// A block: where it begins, and how many bytes it has.
-#[derive(Clone, Copy)]
-pub struct Block {
-    pub start: u32,
-    pub size: u32,
-}
+use crate::block::Block;
 
-// What a geometry brings. The methods hand out its constants; they are what ties the constants to the plan, so that
-// code generic over a geometry knows what it is given.
+// What a geometry brings: its size, its device code and its blocks. `plan` gives them in the words of the documents; the
+// facts at the end tie the constants to it, so that code generic over a geometry knows what it is given.
 pub trait Geometry {
+    // How many bytes the chip has.
     const SIZE: u32;
 
+    ghost SIZE: { ℕ };
+
+    // The device code that the chip gives in ID mode.
     const CODE: u8;
 
+    ghost CODE: { ℕ };
+
+    // How many blocks the chip has. A constant beside the table, since a rule of the project wants the count as one.
     const BLOCKS: usize;
 
-    const STARTS: [u32; 11];
-
-    const SIZES: [u32; 11];
+    ghost BLOCKS: { ℕ };
 
     ghost plan: { Plan };
 
-    fn extent() -> u32
-        ensures { result ≡ plan.size };
+    // The blocks, one after the other.
+    fn table() -> &'static [Block]
+        ensures starts { starts_of result.now ≡ plan.starts }
+        ensures sizes { sizes_of result.now ≡ plan.sizes };
 
-    fn device() -> u8
-        ensures { result ≡ plan.code };
+    ghost size_is: { SIZE ≡ plan.size };
 
-    fn count() -> usize
-        ensures { result ≡ length plan.sizes };
+    ghost code_is: { CODE ≡ plan.code };
 
-    // Where a block begins; 0 where there is no such block.
-    fn start(block: usize) -> u32
-        ensures { result ≡ slice_index plan.starts block };
-
-    // A block's size; 0 where there is no such block.
-    fn width(block: usize) -> u32
-        ensures { result ≡ slice_index plan.sizes block };
+    ghost count_is: { BLOCKS ≡ length plan.sizes };
 
     // Blocks follow one another from 0 without gap or overlap and end at the size.
     ghost contiguous: { Contiguous plan };
@@ -48,210 +43,185 @@ pub trait Geometry {
     ghost few: { length plan.sizes ≤ 11 };
 }
 
+// A table of blocks, each by its start and its size.
+macro_rules! blocks {
+    ($($start:literal => $size:literal),* $(,)?) => {
+        [$(Block { start: $start, size: $size }),*]
+    };
+}
+
 // TC58FVT004: the small blocks lie at the top.
 pub struct Top;
+
+const TOP_BLOCKS: [Block; 11] = blocks![
+    0 => 65536,
+    65536 => 65536,
+    131072 => 65536,
+    196608 => 65536,
+    262144 => 65536,
+    327680 => 65536,
+    393216 => 65536,
+    458752 => 32768,
+    491520 => 8192,
+    499712 => 8192,
+    507904 => 16384,
+];
 
 impl Geometry for Top {
     const SIZE: u32 = 524288;
 
+    ghost SIZE = { 524288 };
+
     const CODE: u8 = 0x3B;
+
+    ghost CODE = { 0x3B };
 
     const BLOCKS: usize = 11;
 
-    const STARTS: [u32; 11] = [
-        0, 65536, 131072, 196608, 262144, 327680, 393216, 458752, 491520, 499712, 507904,
-    ];
-
-    const SIZES: [u32; 11] = [
-        65536, 65536, 65536, 65536, 65536, 65536, 65536, 32768, 8192, 8192, 16384,
-    ];
+    ghost BLOCKS = { 11 };
 
     ghost plan = { top };
+
+    fn table() -> &'static [Block] {
+        &TOP_BLOCKS
+    }
+
+    ghost size_is = { Prim.search rules };
+
+    ghost code_is = { Prim.search rules };
+
+    ghost count_is = { Prim.search rules };
 
     ghost contiguous = { Prim.search rules };
 
     ghost few = { Prim.search rules };
-
-    fn extent() -> u32 {
-        Self::SIZE
-    }
-
-    fn device() -> u8 {
-        Self::CODE
-    }
-
-    fn count() -> usize {
-        Self::BLOCKS
-    }
-
-    fn start(block: usize) -> u32 {
-        if block < Self::BLOCKS {
-            Self::STARTS[block]
-        } else {
-            0
-        }
-    }
-
-    fn width(block: usize) -> u32 {
-        if block < Self::BLOCKS {
-            Self::SIZES[block]
-        } else {
-            0
-        }
-    }
 }
 
 // TC58FVB004: the small blocks lie at the bottom.
 pub struct Bottom;
 
+const BOTTOM_BLOCKS: [Block; 11] = blocks![
+    0 => 16384,
+    16384 => 8192,
+    24576 => 8192,
+    32768 => 32768,
+    65536 => 65536,
+    131072 => 65536,
+    196608 => 65536,
+    262144 => 65536,
+    327680 => 65536,
+    393216 => 65536,
+    458752 => 65536,
+];
+
 impl Geometry for Bottom {
     const SIZE: u32 = 524288;
 
+    ghost SIZE = { 524288 };
+
     const CODE: u8 = 0xBA;
+
+    ghost CODE = { 0xBA };
 
     const BLOCKS: usize = 11;
 
-    const STARTS: [u32; 11] = [
-        0, 16384, 24576, 32768, 65536, 131072, 196608, 262144, 327680, 393216, 458752,
-    ];
-
-    const SIZES: [u32; 11] = [
-        16384, 8192, 8192, 32768, 65536, 65536, 65536, 65536, 65536, 65536, 65536,
-    ];
+    ghost BLOCKS = { 11 };
 
     ghost plan = { bottom };
+
+    fn table() -> &'static [Block] {
+        &BOTTOM_BLOCKS
+    }
+
+    ghost size_is = { Prim.search rules };
+
+    ghost code_is = { Prim.search rules };
+
+    ghost count_is = { Prim.search rules };
 
     ghost contiguous = { Prim.search rules };
 
     ghost few = { Prim.search rules };
-
-    fn extent() -> u32 {
-        Self::SIZE
-    }
-
-    fn device() -> u8 {
-        Self::CODE
-    }
-
-    fn count() -> usize {
-        Self::BLOCKS
-    }
-
-    fn start(block: usize) -> u32 {
-        if block < Self::BLOCKS {
-            Self::STARTS[block]
-        } else {
-            0
-        }
-    }
-
-    fn width(block: usize) -> u32 {
-        if block < Self::BLOCKS {
-            Self::SIZES[block]
-        } else {
-            0
-        }
-    }
 }
 
 // The bench chip: TC58FVB004 with every size divided by 16.
 pub struct Bench;
 
+const BENCH_BLOCKS: [Block; 11] = blocks![
+    0 => 1024,
+    1024 => 512,
+    1536 => 512,
+    2048 => 2048,
+    4096 => 4096,
+    8192 => 4096,
+    12288 => 4096,
+    16384 => 4096,
+    20480 => 4096,
+    24576 => 4096,
+    28672 => 4096,
+];
+
 impl Geometry for Bench {
     const SIZE: u32 = 32768;
 
+    ghost SIZE = { 32768 };
+
     const CODE: u8 = 0xBA;
+
+    ghost CODE = { 0xBA };
 
     const BLOCKS: usize = 11;
 
-    const STARTS: [u32; 11] = [
-        0, 1024, 1536, 2048, 4096, 8192, 12288, 16384, 20480, 24576, 28672,
-    ];
-
-    const SIZES: [u32; 11] = [
-        1024, 512, 512, 2048, 4096, 4096, 4096, 4096, 4096, 4096, 4096,
-    ];
+    ghost BLOCKS = { 11 };
 
     ghost plan = { bench };
+
+    fn table() -> &'static [Block] {
+        &BENCH_BLOCKS
+    }
+
+    ghost size_is = { Prim.search rules };
+
+    ghost code_is = { Prim.search rules };
+
+    ghost count_is = { Prim.search rules };
 
     ghost contiguous = { Prim.search rules };
 
     ghost few = { Prim.search rules };
-
-    fn extent() -> u32 {
-        Self::SIZE
-    }
-
-    fn device() -> u8 {
-        Self::CODE
-    }
-
-    fn count() -> usize {
-        Self::BLOCKS
-    }
-
-    fn start(block: usize) -> u32 {
-        if block < Self::BLOCKS {
-            Self::STARTS[block]
-        } else {
-            0
-        }
-    }
-
-    fn width(block: usize) -> u32 {
-        if block < Self::BLOCKS {
-            Self::SIZES[block]
-        } else {
-            0
-        }
-    }
 }
 
 // No chip: what is left where a chip could not be made.
 pub struct Dead;
 
+const DEAD_BLOCKS: [Block; 0] = [];
+
 impl Geometry for Dead {
     const SIZE: u32 = 0;
 
+    ghost SIZE = { 0 };
+
     const CODE: u8 = 0;
+
+    ghost CODE = { 0 };
 
     const BLOCKS: usize = 0;
 
-    const STARTS: [u32; 11] = [0; 11];
-
-    const SIZES: [u32; 11] = [0; 11];
+    ghost BLOCKS = { 0 };
 
     ghost plan = { dead };
+
+    fn table() -> &'static [Block] {
+        &DEAD_BLOCKS
+    }
+
+    ghost size_is = { Prim.search rules };
+
+    ghost code_is = { Prim.search rules };
+
+    ghost count_is = { Prim.search rules };
 
     ghost contiguous = { Prim.search rules };
 
     ghost few = { Prim.search rules };
-
-    fn extent() -> u32 {
-        Self::SIZE
-    }
-
-    fn device() -> u8 {
-        Self::CODE
-    }
-
-    fn count() -> usize {
-        Self::BLOCKS
-    }
-
-    fn start(block: usize) -> u32 {
-        if block < Self::BLOCKS {
-            Self::STARTS[block]
-        } else {
-            0
-        }
-    }
-
-    fn width(block: usize) -> u32 {
-        if block < Self::BLOCKS {
-            Self::SIZES[block]
-        } else {
-            0
-        }
-    }
 }

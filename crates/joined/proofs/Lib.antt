@@ -1,3 +1,4 @@
+pub mod Fitting
 pub mod Living
 pub mod Running
 pub mod Whole

@@ -1,13 +1,12 @@
--- A joined part that is not dead, and how it stays so.
-use Rattle.std.proofs.Common.{◌≡◌, ℕ, ◌+◌, ◌-◌, ◌%◌, ◌<◌, ◌≤◌, Bool, true, false, ◌&&◌, eqb, ltb, leb, List, set, Some, None, Option, sym, refl, ap, ◌∙◌, subst, inl, inr, arith}
-use Rattle.std.proofs.lemmas.List.{length-set, set-append_left, set-append_right}
-use Rattle.std.proofs.lemmas.Bool.{le-leb, lt-ltb, cases_Bool, and_parts, and_from, and_left, and_right, not-true, not_from_false, cond-true, true≢false}
+-- What is done to one of two parts end to end is done to the whole.
+use Rattle.std.proofs.Common.{◌≡◌, ℕ, ◌+◌, ◌-◌, ◌%◌, ◌<◌, ◌≤◌, Bool, true, false, eqb, ltb, leb, List, set, Some, None, Option, sym, refl, ap, ◌∙◌, subst, inl, inr, arith}
+use Rattle.std.proofs.lemmas.List.{set-append_left, set-append_right}
+use Rattle.std.proofs.lemmas.Bool.{le-leb, lt-ltb, cases_Bool, cond-true, true≢false}
 use Rattle.refusal.specs.declared.Cause.{Cause}
 use Rattle.refusal.specs.Numbers.{number_of}
 use Rattle.part.specs.Meaning.{Erasure, Meaning, Lawful, ErasureLawful, size, count, with_cells, with_erasure, ticked}
 use Rattle.part.specs.Calls.{stands, Took, Refused, BurntBy, BegunBy, longest, run_on, after_pass}
-use Rattle.joined.specs.Pile.{raised, either, pile, fits, joined, elapsed}
-use Rattle.joined.specs.Refusing.{One}
+use Rattle.joined.specs.Pile.{raised, either, pile, elapsed}
 
 -- Without an erasure, time only moves the clock.
 pub run_idle : (n : Meaning) (k : ℕ) (e : Option Erasure) → stands e ≡ false → run_on n k e ≡ n
@@ -65,120 +64,67 @@ no_time c d n n' ln l e q =
     let s : elapsed c d ≡ 0 = omega arith in
     q ∙ ap (after_pass n) s ∙ pass_none n ln
 
-module _ (l : Bool) (m n : Meaning) (lm : Lawful m) (ln : Lawful n) (al : (l && fits m n) ≡ true) where
-  pub on : joined l m n ≡ pile m n
-  on = cond-true (l && fits m n) _ _ al
-
-  pub lively : l ≡ true
-  lively = (and_parts l (fits m n) al).0
-
-  fit : fits m n ≡ true
-  fit = (and_parts l (fits m n) al).1
-
-  small : leb (size m + size n) 16777216 ≡ true
-  small = (and_parts _ _ (and_parts _ _ fit).0).0
-
-  few : leb (count m + count n) 1024 ≡ true
-  few = (and_parts _ _ (and_parts _ _ fit).0).1
-
-  pub one : One m.erasure n.erasure
-  one = not-true _ (and_parts _ _ fit).1
-
-  -- Sides of the same sizes, of which one at most has an erasure, are a joined part that is not dead.
-  pub keeps : (x y : Meaning) → size x ≡ size m → size y ≡ size n → count x ≡ count m → count y ≡ count n
-      → One x.erasure y.erasure → joined l x y ≡ pile x y
-  keeps x y a b c d o =
-      let s : leb (size x + size y) 16777216 ≡ true = rw (a, b) small in
-      let f : leb (count x + count y) 1024 ≡ true = rw (c, d) few in
-      cond-true (l && fits x y) _ _ (and_from l _ lively (and_from _ _ (and_from _ _ s f) (not_from_false _ o)))
-
+module _ (m n : Meaning) (lm : Lawful m) (ln : Lawful n) where
   -- Time on the first side, and the same time on the second; and the other way round.
-  took_first : (x : Meaning) (least most : ℕ) (m' n' : Meaning) → size x ≡ size m → count x ≡ count m → x.clock ≡ m.clock → most ≤ 300
-      → stands n.erasure ≡ false → Took least most x m' → n' ≡ after_pass n (elapsed m.clock m'.clock)
-      → Took least most (pile x n) (joined l m' n')
-  took_first x least most m' n' a c k h i w q =
+  took_first : (x : Meaning) (least most : ℕ) (m' n' : Meaning) → x.clock ≡ m.clock → most ≤ 300 → stands n.erasure ≡ false
+      → Took least most x m' → n' ≡ after_pass n (elapsed m.clock m'.clock) → Took least most (pile x n) (pile m' n')
+  took_first x least most m' n' k h i w q =
       let t = w.time in
       let d : m'.clock ≡ (m.clock + t) % 4294967296 = ap (λ (y : Meaning). y.clock) w.is ∙ ap (λ (z : ℕ). (z + t) % 4294967296) k in
       let y : n' ≡ ticked n t = beside m.clock m'.clock t n n' i lm.clock d (omega (arith, w.high)) q in
-      record {
-        time = t;
-        low = w.low;
-        high = w.high;
-        is =
-            ap (λ (z : Meaning). joined l z n') w.is
-            ∙ ap (joined l (ticked x t)) y
-            ∙ keeps (ticked x t) (ticked n t) a refl c refl (and_right (stands x.erasure) (stands n.erasure) i);
-      }
+      record { time = t; low = w.low; high = w.high; is = ap (λ (z : Meaning). pile z n') w.is ∙ ap (pile (ticked x t)) y }
 
-  took_second : (y : Meaning) (least most : ℕ) (m' n' : Meaning) → size y ≡ size n → count y ≡ count n → y.clock ≡ n.clock → most ≤ 300
-      → stands m.erasure ≡ false → Took least most y n' → m' ≡ after_pass m (elapsed n.clock n'.clock)
-      → Took least most (pile m y) (joined l m' n')
-  took_second y least most m' n' a c k h i w q =
+  took_second : (y : Meaning) (least most : ℕ) (m' n' : Meaning) → y.clock ≡ n.clock → most ≤ 300 → stands m.erasure ≡ false
+      → Took least most y n' → m' ≡ after_pass m (elapsed n.clock n'.clock) → Took least most (pile m y) (pile m' n')
+  took_second y least most m' n' k h i w q =
       let t = w.time in
       let d : n'.clock ≡ (n.clock + t) % 4294967296 = ap (λ (z : Meaning). z.clock) w.is ∙ ap (λ (z : ℕ). (z + t) % 4294967296) k in
       let x : m' ≡ ticked m t = beside n.clock n'.clock t m m' i ln.clock d (omega (arith, w.high)) q in
-      record {
-        time = t;
-        low = w.low;
-        high = w.high;
-        is =
-            ap (λ (z : Meaning). joined l z n') x
-            ∙ ap (joined l (ticked m t)) w.is
-            ∙ keeps (ticked m t) (ticked y t) refl a refl c (and_left (stands m.erasure) (stands y.erasure) i);
-      }
+      record { time = t; low = w.low; high = w.high; is = ap (λ (z : Meaning). pile z n') x ∙ ap (pile (ticked m t)) w.is }
 
   -- Nothing happened on one side, and so nothing on the other.
-  same_first : (m' n' : Meaning) → m' ≡ m → n' ≡ after_pass n (elapsed m.clock m'.clock) → joined l m' n' ≡ pile m n
+  same_first : (m' n' : Meaning) → m' ≡ m → n' ≡ after_pass n (elapsed m.clock m'.clock) → pile m' n' ≡ pile m n
   same_first m' n' e q =
       let y : n' ≡ n = no_time m.clock m'.clock n n' ln lm.clock (ap (λ (z : Meaning). z.clock) e) q in
-      ap (λ (z : Meaning). joined l z n') e ∙ ap (joined l m) y ∙ on
+      ap (λ (z : Meaning). pile z n') e ∙ ap (pile m) y
 
-  pub same_second : (m' n' : Meaning) → n' ≡ n → m' ≡ after_pass m (elapsed n.clock n'.clock) → joined l m' n' ≡ pile m n
+  pub same_second : (m' n' : Meaning) → n' ≡ n → m' ≡ after_pass m (elapsed n.clock n'.clock) → pile m' n' ≡ pile m n
   same_second m' n' e q =
       let x : m' ≡ m = no_time n.clock n'.clock m m' lm ln.clock (ap (λ (z : Meaning). z.clock) e) q in
-      ap (λ (z : Meaning). joined l z n') x ∙ ap (joined l m) e ∙ on
+      ap (λ (z : Meaning). pile z n') x ∙ ap (pile m) e
 
   -- A burn on one side is a burn of the whole.
   pub burnt_first : (a byte : ℕ) (why : Option Cause) (m' n' : Meaning) → a < size m → stands n.erasure ≡ false
-      → BurntBy m a byte why m' → n' ≡ after_pass n (elapsed m.clock m'.clock) → BurntBy (pile m n) a byte why (joined l m' n')
+      → BurntBy m a byte why m' → n' ≡ after_pass n (elapsed m.clock m'.clock) → BurntBy (pile m n) a byte why (pile m' n')
   burnt_first a byte None m' n' h i w q =
-      let x : Meaning = with_cells m (set m.cells a byte) in
-      subst (λ (cs : List ℕ). Took 1 300 (with_cells (pile m n) cs) (joined l m' n'))
+      subst (λ (cs : List ℕ). Took 1 300 (with_cells (pile m n) cs) (pile m' n'))
       (sym (set-append_left m.cells n.cells a byte h))
-      (took_first x 1 300 m' n' (length-set m.cells a byte) refl refl (omega arith) i w q)
+      (took_first (with_cells m (set m.cells a byte)) 1 300 m' n' refl (omega arith) i w q)
   burnt_first a byte (Some cause) m' n' h i w q = refused (eqb (number_of cause) 8) w
     where
-      refused : (b : Bool) → Refused b m m' → Refused b (pile m n) (joined l m' n')
-      refused true w = took_first m 0 300 m' n' refl refl refl (omega arith) i w q
+      refused : (b : Bool) → Refused b m m' → Refused b (pile m n) (pile m' n')
+      refused true w = took_first m 0 300 m' n' refl (omega arith) i w q
       refused false w = same_first m' n' w q
 
   pub burnt_second : (a byte : ℕ) (why : Option Cause) (m' n' : Meaning) → size m ≤ a → stands m.erasure ≡ false
-      → BurntBy n (a - size m) byte why n' → m' ≡ after_pass m (elapsed n.clock n'.clock) → BurntBy (pile m n) a byte why (joined l m' n')
+      → BurntBy n (a - size m) byte why n' → m' ≡ after_pass m (elapsed n.clock n'.clock) → BurntBy (pile m n) a byte why (pile m' n')
   burnt_second a byte None m' n' h i w q =
-      let y : Meaning = with_cells n (set n.cells (a - size m) byte) in
-      subst (λ (cs : List ℕ). Took 1 300 (with_cells (pile m n) cs) (joined l m' n'))
+      subst (λ (cs : List ℕ). Took 1 300 (with_cells (pile m n) cs) (pile m' n'))
       (sym (set-append_right m.cells n.cells (size m) a byte refl h))
-      (took_second y 1 300 m' n' (length-set n.cells (a - size m) byte) refl refl (omega arith) i w q)
+      (took_second (with_cells n (set n.cells (a - size m) byte)) 1 300 m' n' refl (omega arith) i w q)
   burnt_second a byte (Some cause) m' n' h i w q = refused (eqb (number_of cause) 8) w
     where
-      refused : (b : Bool) → Refused b n n' → Refused b (pile m n) (joined l m' n')
-      refused true w = took_second n 0 300 m' n' refl refl refl (omega arith) i w q
+      refused : (b : Bool) → Refused b n n' → Refused b (pile m n) (pile m' n')
+      refused true w = took_second n 0 300 m' n' refl (omega arith) i w q
       refused false w = same_second m' n' w q
 
   -- So is the beginning of an erasure.
-  pub begun_first : (b : ℕ) (why : Option Cause) (m' : Meaning) → stands n.erasure ≡ false → BegunBy m b why m' → BegunBy (pile m n) b why (joined l m' n)
-  begun_first b None m' i w =
-      let e : Option Erasure = Some (record { block = b; left = w.left; running = true }) in
-      record {
-        left = w.left;
-        low = w.low;
-        high = w.high;
-        is = ap (λ (z : Meaning). joined l z n) w.is ∙ keeps (with_erasure m e) n refl refl refl refl i;
-      }
-  begun_first b (Some cause) m' i w = ap (λ (z : Meaning). joined l z n) w ∙ on
+  pub begun_first : (b : ℕ) (why : Option Cause) (m' : Meaning) → BegunBy m b why m' → BegunBy (pile m n) b why (pile m' n)
+  begun_first b None m' w = record { left = w.left; low = w.low; high = w.high; is = ap (λ (z : Meaning). pile z n) w.is }
+  begun_first b (Some cause) m' w = ap (λ (z : Meaning). pile z n) w
 
   pub begun_second : (b : ℕ) (why : Option Cause) (n' : Meaning) → count m ≤ b → stands m.erasure ≡ false
-      → BegunBy n (b - count m) why n' → BegunBy (pile m n) b why (joined l m n')
+      → BegunBy n (b - count m) why n' → BegunBy (pile m n) b why (pile m n')
   begun_second b None n' h i w =
       let e : Option Erasure = Some (record { block = b - count m; left = w.left; running = true }) in
       let k : count m + (b - count m) ≡ b = omega arith in
@@ -187,9 +133,8 @@ module _ (l : Bool) (m n : Meaning) (lm : Lawful m) (ln : Lawful n) (al : (l && 
         low = w.low;
         high = w.high;
         is =
-            ap (joined l m) w.is
-            ∙ keeps m (with_erasure n e) refl refl refl refl (and_left (stands m.erasure) true i)
+            ap (pile m) w.is
             ∙ ap (λ (d : Option Erasure). with_erasure (pile m n) (either d (raised (count m) e))) (no_erasure m.erasure i)
             ∙ ap (λ (j : ℕ). with_erasure (pile m n) (Some (record { block = j; left = w.left; running = true }))) k;
       }
-  begun_second b (Some cause) n' h i w = ap (joined l m) w ∙ on
+  begun_second b (Some cause) n' h i w = ap (pile m) w

@@ -1,16 +1,16 @@
 -- Time that passes on two parts end to end.
-use Rattle.std.proofs.Common.{◌≡◌, ℕ, ◌+◌, ◌-◌, ◌<◌, Bool, true, false, cond, ◌&&◌, ltb, leb, List, ◌++◌, length, Some, None, Option, sym, refl, ap, ◌∙◌, inl, inr}
-use Rattle.std.proofs.lemmas.Bool.{and_cases, and_left, and_right, cases_Bool, false≢true}
+use Rattle.std.proofs.Common.{◌≡◌, ℕ, ◌+◌, ◌-◌, ◌<◌, Bool, true, false, cond, ltb, leb, List, ◌++◌, length, Some, None, Option, sym, refl, ap, ◌∙◌, inl, inr}
+use Rattle.std.proofs.lemmas.Bool.{and_cases, cases_Bool}
 use Rattle.geometry.specs.Blocks.{wiped}
 use Rattle.geometry.proofs.Wiping.{length_wiped, wiped_left, wiped_right}
 use Rattle.part.specs.Meaning.{Erasure, Meaning, Lawful, ErasureLawful, size, count, worn, with_cells, with_erasure, ticked}
 use Rattle.part.specs.Calls.{stands, erased, longest, run_on, passed, progress, after_pass}
-use Rattle.joined.specs.Pile.{raised, either, pile, fits, joined}
+use Rattle.joined.specs.Pile.{raised, either, pile}
 use Rattle.joined.specs.Refusing.{One, worn_left, worn_right}
-use Rattle.joined.proofs.Living.{run_idle, no_erasure, on, one, keeps}
+use Rattle.joined.proofs.Living.{run_idle, no_erasure}
 
 -- An erasure that goes on or ends changes neither the size nor the blocks.
-size_run : (m : Meaning) (k : ℕ) (e : Option Erasure) → size (run_on m k e) ≡ size m
+pub size_run : (m : Meaning) (k : ℕ) (e : Option Erasure) → size (run_on m k e) ≡ size m
 size_run m k None = refl
 size_run m k (Some e) = by e.running (ltb k e.left)
   where
@@ -26,7 +26,7 @@ size_run m k (Some e) = by e.running (ltb k e.left)
     by true false = wipe (worn m e.block)
     by false s = refl
 
-count_run : (m : Meaning) (k : ℕ) (e : Option Erasure) → count (run_on m k e) ≡ count m
+pub count_run : (m : Meaning) (k : ℕ) (e : Option Erasure) → count (run_on m k e) ≡ count m
 count_run m k None = refl
 count_run m k (Some e) = by e.running (ltb k e.left)
   where
@@ -94,66 +94,37 @@ module _ (m n : Meaning) (lm : Lawful m) (o : One m.erasure n.erasure) (k : ℕ)
       by true false = ended_right x.block q
       by false s = refl
 
-  -- What becomes of the erasure.
-  pub progress_left : (d : Option Erasure) → ErasureLawful (count m) d → progress (pile m n) k d ≡ progress m k d
-  progress_left None h = refl
-  progress_left (Some x) h = rw (worn_left m n lm o x.block h.0)
-
-  pub progress_right : (e : Option Erasure) → progress (pile m n) k (raised (count m) e) ≡ progress n k e
+  -- What becomes of the second side's erasure.
+  progress_right : (e : Option Erasure) → progress (pile m n) k (raised (count m) e) ≡ progress n k e
   progress_right None = refl
   progress_right (Some x) = rw (worn_right m n lm o x.block)
 
 -- Time that passes on both sides passes on the whole.
-module _ (l : Bool) (m n : Meaning) (lm : Lawful m) (ln : Lawful n) (al : (l && fits m n) ≡ true) (k : ℕ) where
-  lone : One m.erasure n.erasure
-  lone = one l m n lm ln al
-
-  run_first : stands n.erasure ≡ false → joined l (passed m k) (passed n k) ≡ passed (pile m n) k
+module _ (m n : Meaning) (lm : Lawful m) (o : One m.erasure n.erasure) (k : ℕ) where
+  run_first : stands n.erasure ≡ false → pile (passed m k) (passed n k) ≡ passed (pile m n) k
   run_first i =
-      let x : Meaning = run_on m k m.erasure in
       let q : n.erasure ≡ None = no_erasure n.erasure i in
-      ap (λ (y : Meaning). joined l (passed m k) (ticked y k)) (run_idle n k n.erasure i)
-      ∙ keeps l m n lm ln al (ticked x k) (ticked n k) (size_run m k m.erasure) refl (count_run m k m.erasure) refl
-      (and_right (stands x.erasure) (stands n.erasure) i)
+      ap (λ (y : Meaning). pile (passed m k) (ticked y k)) (run_idle n k n.erasure i)
       ∙ ap (λ (y : Meaning). ticked y k)
-      (run_left m n lm lone k m.erasure lm.erasure q
+      (run_left m n lm o k m.erasure lm.erasure q
       ∙ ap (run_on (pile m n) k) (sym (either_none (count m) m.erasure n.erasure q)))
 
-  run_second : stands m.erasure ≡ false → joined l (passed m k) (passed n k) ≡ passed (pile m n) k
+  run_second : stands m.erasure ≡ false → pile (passed m k) (passed n k) ≡ passed (pile m n) k
   run_second i =
-      let y : Meaning = run_on n k n.erasure in
       let q : m.erasure ≡ None = no_erasure m.erasure i in
-      ap (λ (x : Meaning). joined l (ticked x k) (passed n k)) (run_idle m k m.erasure i)
-      ∙ keeps l m n lm ln al (ticked m k) (ticked y k) refl (size_run n k n.erasure) refl (count_run n k n.erasure)
-      (and_left (stands m.erasure) (stands y.erasure) i)
+      ap (λ (x : Meaning). pile (ticked x k) (passed n k)) (run_idle m k m.erasure i)
       ∙ ap (λ (x : Meaning). ticked x k)
-      (run_right m n lm lone k n.erasure q
+      (run_right m n lm o k n.erasure q
       ∙ ap (λ (d : Option Erasure). run_on (pile m n) k (either d (raised (count m) n.erasure))) (sym q))
 
-  run_both : joined l (passed m k) (passed n k) ≡ passed (pile m n) k
-  run_both = elim (and_cases (stands m.erasure) (stands n.erasure) lone) [ inl i ↦ run_second i | inr i ↦ run_first i ]
+  run_both : pile (passed m k) (passed n k) ≡ passed (pile m n) k
+  run_both = elim (and_cases (stands m.erasure) (stands n.erasure) o) [ inl i ↦ run_second i | inr i ↦ run_first i ]
 
-  pub pass_both : joined l (after_pass m k) (after_pass n k) ≡ after_pass (joined l m n) k
-  pass_both =
-      elim (cases_Bool (leb k longest)) [
-        | inl h ↦ rw h (run_both ∙ ap (λ (x : Meaning). passed x k) (sym (on l m n lm ln al)))
-        | inr h ↦ rw h
-      ]
+  pub pass_both : pile (after_pass m k) (after_pass n k) ≡ after_pass (pile m n) k
+  pass_both = elim (cases_Bool (leb k longest)) [ inl h ↦ rw h run_both | inr h ↦ rw h ]
 
-  -- The side that has an erasure says what became of it.
-  pub progress_first : stands m.erasure ≡ true → progress (joined l m n) k (joined l m n).erasure ≡ progress m k m.erasure
-  progress_first t =
-      let i : stands n.erasure ≡ false = other (stands m.erasure) (stands n.erasure) t lone in
-      ap (λ (x : Meaning). progress x k x.erasure) (on l m n lm ln al)
-      ∙ ap (progress (pile m n) k) (either_none (count m) m.erasure n.erasure (no_erasure n.erasure i))
-      ∙ progress_left m n lm lone k m.erasure lm.erasure
-    where
-      other : (x y : Bool) → x ≡ true → (x && y) ≡ false → y ≡ false
-      other true y t h = h
-      other false y t h = absurd (false≢true t)
-
-  pub progress_second : stands m.erasure ≡ false → progress (joined l m n) k (joined l m n).erasure ≡ progress n k n.erasure
+  -- The second side says what became of the erasure, where the first has none.
+  pub progress_second : stands m.erasure ≡ false → progress (pile m n) k (pile m n).erasure ≡ progress n k n.erasure
   progress_second i =
-      ap (λ (x : Meaning). progress x k x.erasure) (on l m n lm ln al)
-      ∙ ap (λ (d : Option Erasure). progress (pile m n) k (either d (raised (count m) n.erasure))) (no_erasure m.erasure i)
-      ∙ progress_right m n lm lone k n.erasure
+      ap (λ (d : Option Erasure). progress (pile m n) k (either d (raised (count m) n.erasure))) (no_erasure m.erasure i)
+      ∙ progress_right m n lm o k n.erasure

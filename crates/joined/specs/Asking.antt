@@ -4,14 +4,15 @@ use Rattle.std.proofs.Common.{sym, ap, ◌∙◌, arith}
 use Rattle.std.proofs.lemmas.List.{length-append, get_or_append_left, get_or-append_right}
 use Rattle.std.proofs.lemmas.Bool.{lt-ltb, leb-true, and_parts, cond_both}
 use Rattle.std.proofs.lemmas.Bool.Decides.{nat_tests}
-use Rattle.geometry.specs.declared.tables.Block.{Block}
+use Rattle.geometry.specs.declared.block.Block.{Block}
 use Rattle.geometry.specs.Blocks.{start_of}
 use Rattle.part.specs.declared.answers.Standing.{Standing}
 use Rattle.part.specs.declared.answers.Shape.{Shape}
 use Rattle.part.specs.Meaning.{Erasure, Meaning, Lawful, ErasureLawful, size, count, standing_of, shape_of}
 use Rattle.part.specs.Calls.{block_at}
-use Rattle.joined.specs.Pile.{raised, either, pile, no_part, fits, joined, stood, either_stands, later, LaterRoom}
-use Rattle.joined.specs.Refusing.{stood_is}
+use Rattle.part.specs.Standings.{stood}
+use Rattle.part.proofs.Standings.{stood_is}
+use Rattle.joined.specs.Pile.{raised, either, pile, no_part, fits, joined, either_stands, later, LaterRoom}
 use Rattle.joined.specs.Rows.{total_both, start_left, start_right, start_most}
 
 -- Which erasure stands.

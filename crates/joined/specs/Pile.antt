@@ -1,6 +1,6 @@
 -- Two parts end to end.
 use Rattle.std.specs.Prelude.{◌≡◌, ℕ, ◌+◌, ◌-◌, ◌%◌, ◌<◌, Bool, true, false, cond, not, ◌&&◌, [], ◌++◌, Some, None, Ok, Err, Option, Result, nat_le}
-use Rattle.geometry.specs.declared.tables.Block.{Block}
+use Rattle.geometry.specs.declared.block.Block.{Block}
 use Rattle.part.specs.declared.fault.PartFault.{PartFault}
 use Rattle.part.specs.declared.answers.Shape.{Shape}
 use Rattle.part.specs.declared.answers.Standing.{Standing}
@@ -51,18 +51,6 @@ abbrev pub elapsed : ℕ → ℕ → ℕ
 elapsed before after = (after + 4294967296 - before) % 4294967296
 
 -- The same in the words of the sides' answers.
-
--- an erasure stands, running or not
-abbrev pub stood : Standing → Bool
-stood Idle = false
-stood (Running b) = true
-stood (Suspended b) = true
-
--- an erasure runs
-abbrev pub ran : Standing → Bool
-ran Idle = false
-ran (Running b) = true
-ran (Suspended b) = false
 
 -- the first's standing, or else the second's with its block k numbers higher
 abbrev pub either_stands : Standing → Standing → ℕ → Standing

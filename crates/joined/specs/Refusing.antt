@@ -7,32 +7,10 @@ use Rattle.std.proofs.lemmas.Bool.Decides.{nat_tests}
 use Rattle.refusal.specs.declared.Cause.{Cause}
 use Rattle.refusal.specs.declared.Cause.TheVariants.{ErasureInTheWay}
 use Rattle.geometry.proofs.Placing.{block_within}
-use Rattle.part.specs.Meaning.{Erasure, Meaning, Lawful, ErasureLawful, size, count, cell, block, guarded, worn, standing_of}
-use Rattle.part.specs.Calls.{stands, hides, peek_no, burn_no, begin_no}
-use Rattle.joined.specs.Pile.{raised, either, pile, stood, ran}
+use Rattle.part.specs.Meaning.{Erasure, Meaning, Lawful, ErasureLawful, size, count, cell, block, guarded, worn}
+use Rattle.part.specs.Calls.{stands, runs, hides, peek_no, burn_no, begin_no}
+use Rattle.joined.specs.Pile.{raised, either, pile}
 use Rattle.joined.specs.Rows.{block_left, block_right}
-
--- The two sides in the words of the calls' answers.
-pub stood_is : (e : Option Erasure) → stood (standing_of e) ≡ stands e
-stood_is None = refl
-stood_is (Some e) = by_running e.block e.left e.running
-  where
-    by_running : (b l : ℕ) (r : Bool) → stood (standing_of (Some (record { block = b; left = l; running = r }))) ≡ true
-    by_running b l true = refl
-    by_running b l false = refl
-
--- an erasure runs
-abbrev pub runs : Option Erasure → Bool
-runs None = false
-runs (Some e) = e.running
-
-pub ran_is : (e : Option Erasure) → ran (standing_of e) ≡ runs e
-ran_is None = refl
-ran_is (Some e) = by_running e.block e.left e.running
-  where
-    by_running : (b l : ℕ) (r : Bool) → ran (standing_of (Some (record { block = b; left = l; running = r }))) ≡ r
-    by_running b l true = refl
-    by_running b l false = refl
 
 -- not both sides have an erasure
 abbrev pub One : Option Erasure → Option Erasure → Type 0

@@ -3,8 +3,7 @@ ghost use Rattle.joined.specs.Pile.{joined as meaning};
 ghost use Rattle.joined.specs.Asking.{lawful_joined};
 
 use crate::joined::Joined;
-use crate::sides;
-use crate::sides::{either, fit, later, placed, runs, stands};
+use crate::sides::{beside, either, placed, refused};
 use geometry::Block;
 use part::{Part, PartFault, Progress, Shape, Standing, Turn};
 use refusal::Cause;
@@ -15,31 +14,29 @@ impl<P: Part + Drop, Q: Part + Drop> Part for Joined<P, Q> {
     ghost lawful = { λ s. lawful_joined s.live (P.Part.means s.first) (Q.Part.means s.second) (P.Part.lawful s.first) (Q.Part.lawful s.second) };
 
     fn shape(&self) -> Shape {
-        let first = self.first.shape();
-        let second = self.second.shape();
-        if self.live & fit(first, second) {
-            Shape {
-                size: first.size + second.size,
-                blocks: first.blocks + second.blocks,
-                standing: either(first.standing, second.standing, first.blocks),
-            }
-        } else {
-            Shape {
+        match self.sides() {
+            None => Shape {
                 size: 0,
                 blocks: 0,
                 standing: Standing::Idle,
-            }
+            },
+            Some((first, second)) => Shape {
+                size: first.size + second.size,
+                blocks: first.blocks + second.blocks,
+                standing: either(first.standing, second.standing, first.blocks),
+            },
         }
     }
 
     fn block(&self, number: u32) -> Option<Block> {
-        let Some((first, _second)) = self.sides() else {
-            return None;
-        };
+        let (first, _second) = self.sides()?;
         if number < first.blocks {
             self.first.block(number)
         } else {
-            later(self.second.block(number - first.blocks), first.size)
+            self.second.block(number - first.blocks).map(|block| Block {
+                start: first.size + block.start,
+                ..block
+            })
         }
     }
 
@@ -60,109 +57,80 @@ impl<P: Part + Drop, Q: Part + Drop> Part for Joined<P, Q> {
 
     // A running erasure hides the cells of the other side too.
     fn peek(&mut self, address: u32) -> Result<u8, PartFault> {
-        let Some((first, second)) = self.sides() else {
-            return Err(PartFault {
-                cause: Cause::AddressOutside,
-                place: address,
-            });
-        };
-        let in_the_way = PartFault {
-            cause: Cause::ErasureInTheWay,
-            place: address,
-        };
-        if address < first.size {
-            if runs(second.standing) {
-                return Err(in_the_way);
-            }
-            return self.first.peek(address);
+        let outside = refused(Cause::AddressOutside, address);
+        let in_the_way = refused(Cause::ErasureInTheWay, address);
+        let (first, second) = self.sides().ok_or(outside)?;
+        match address.checked_sub(first.size) {
+            None if second.standing.runs() => Err(in_the_way),
+            None => self.first.peek(address),
+            Some(inner) if inner < second.size && first.standing.runs() => Err(in_the_way),
+            Some(inner) => placed(self.second.peek(inner), address),
         }
-        let inner = address - first.size;
-        if (inner < second.size) & runs(first.standing) {
-            return Err(in_the_way);
-        }
-        placed(self.second.peek(inner), address)
     }
 
     fn burn(&mut self, address: u32, byte: u8) -> Result<(), PartFault> {
-        let Some((first, second)) = self.sides() else {
-            return Err(PartFault {
-                cause: Cause::AddressOutside,
-                place: address,
-            });
-        };
-        let in_the_way = PartFault {
-            cause: Cause::ErasureInTheWay,
-            place: address,
-        };
-        if address < first.size {
-            if stands(second.standing) {
-                return Err(in_the_way);
-            }
-            return sides::burn(&mut self.first, &mut self.second, address, byte);
+        let outside = refused(Cause::AddressOutside, address);
+        let in_the_way = refused(Cause::ErasureInTheWay, address);
+        let (first, second) = self.sides().ok_or(outside)?;
+        match address.checked_sub(first.size) {
+            None if second.standing.stands() => Err(in_the_way),
+            None => beside(
+                &mut self.first,
+                &mut self.second,
+                |side| side.burn(address, byte),
+            ),
+            Some(inner) if inner < second.size && first.standing.stands() => Err(in_the_way),
+            Some(inner) => beside(
+                &mut self.second,
+                &mut self.first,
+                |side| placed(side.burn(inner, byte), address),
+            ),
         }
-        let inner = address - first.size;
-        if (inner < second.size) & stands(first.standing) {
-            return Err(in_the_way);
-        }
-        placed(
-            sides::burn(&mut self.second, &mut self.first, inner, byte),
-            address,
-        )
     }
 
     fn begin(&mut self, block: u32) -> Result<(), PartFault> {
-        let Some((first, second)) = self.sides() else {
-            return Err(PartFault {
-                cause: Cause::NoSuchBlock,
-                place: block,
-            });
-        };
-        let in_the_way = PartFault {
-            cause: Cause::ErasureInTheWay,
-            place: block,
-        };
-        if block < first.blocks {
-            if stands(second.standing) {
-                return Err(in_the_way);
-            }
-            return self.first.begin(block);
+        let no_such_block = refused(Cause::NoSuchBlock, block);
+        let in_the_way = refused(Cause::ErasureInTheWay, block);
+        let (first, second) = self.sides().ok_or(no_such_block)?;
+        match block.checked_sub(first.blocks) {
+            None if second.standing.stands() => Err(in_the_way),
+            None => self.first.begin(block),
+            Some(inner) if inner < second.blocks && first.standing.stands() => Err(in_the_way),
+            Some(inner) => placed(self.second.begin(inner), block),
         }
-        let inner = block - first.blocks;
-        if (inner < second.blocks) & stands(first.standing) {
-            return Err(in_the_way);
-        }
-        placed(self.second.begin(inner), block)
     }
 
     fn hold(&mut self) -> Turn {
-        if !self.alive() {
-            return Turn::Nothing;
-        }
-        if stands(self.first.shape().standing) {
-            sides::hold(&mut self.first, &mut self.second)
+        if !self.live {
+            Turn::Nothing
+        } else if self.first.shape().standing.stands() {
+            beside(&mut self.first, &mut self.second, |side| side.hold())
         } else {
-            sides::hold(&mut self.second, &mut self.first)
+            beside(&mut self.second, &mut self.first, |side| side.hold())
         }
     }
 
     fn go_on(&mut self) -> Turn {
-        if !self.alive() {
-            return Turn::Nothing;
-        }
-        if stands(self.first.shape().standing) {
+        if !self.live {
+            Turn::Nothing
+        } else if self.first.shape().standing.stands() {
             self.first.go_on()
         } else {
             self.second.go_on()
         }
     }
 
+    // Time passes on both sides of a dead part too, and it stays dead whatever becomes of their erasures.
     fn pass(&mut self, n: u32) -> Result<Progress, PartFault> {
-        let Some((first, _second)) = self.sides() else {
-            return self.pass_dead(n);
-        };
-        let busy = stands(first.standing);
+        let busy = self.first.shape().standing.stands();
         let before = self.first.pass(n);
         let behind = self.second.pass(n);
-        if busy { before } else { behind }
+        if !self.live {
+            before.map(|_| Progress::Idle)
+        } else if busy {
+            before
+        } else {
+            behind
+        }
     }
 }

@@ -1,17 +1,22 @@
-ghost use Rattle.std.specs.Prelude.{◌≡◌, false, ◌&&◌};
-ghost use Rattle.part.specs.Calls.{answer, pass_no, after_pass};
-ghost use Rattle.part.specs.declared.answers.Progress.TheVariants.{Idle};
+ghost use Rattle.std.specs.Prelude.{◌≡◌, true};
 ghost use Rattle.joined.specs.Pile.{Asked, fits, joined as meaning, made};
 
-use crate::sides::{fit, stands};
-use part::{Part, PartFault, Progress, Shape};
+use part::{Part, Shape};
 
-// Two parts end to end. One that is not live is dead: it has no blocks, but time still passes on both sides.
+// The most bytes that a part has.
+const MOST_BYTES: u32 = 16_777_216;
+
+// The most blocks that a part has.
+const MOST_BLOCKS: u32 = 1024;
+
+// Two parts end to end. The sides of a live one fit together. One that is not live is dead: it has no blocks, but time still passes on both
+// sides, so it keeps them, and a flag is plainer than an enum with the same two sides in each case.
 #[derive(Drop)]
-pub struct Joined<P, Q> {
+pub struct Joined<P: Part, Q: Part> {
     pub(crate) first: P,
     pub(crate) second: Q,
     pub(crate) live: bool,
+    ghost together: { live ≡ true → fits (P.Part.means first) (Q.Part.means second) ≡ true },
 }
 
 impl<P: Part + Drop, Q: Part + Drop> Joined<P, Q> {
@@ -19,45 +24,22 @@ impl<P: Part + Drop, Q: Part + Drop> Joined<P, Q> {
     pub fn new(first: P, second: Q) -> Joined<P, Q>
         ensures { meaning result.live (P.Part.means result.first) (Q.Part.means result.second) ≡ made (P.Part.means first) (Q.Part.means second) }
     {
-        let before = stands(first.shape().standing);
-        let behind = stands(second.shape().standing);
+        let before = first.shape();
+        let behind = second.shape();
+        let small = before.size + behind.size <= MOST_BYTES
+            && before.blocks + behind.blocks <= MOST_BLOCKS;
+        let live = small && !before.standing.stands() && !behind.standing.stands();
         Joined {
             first,
             second,
-            live: !before & !behind,
+            live,
         }
-    }
-
-    // Whether it is not dead.
-    pub(crate) fn alive(&self) -> bool
-        ensures { result ≡ (self.now.live && fits (P.Part.means self.now.first) (Q.Part.means self.now.second)) }
-    {
-        self.live & fit(self.first.shape(), self.second.shape())
     }
 
     // The shapes of the two sides, or none where the joined part is dead. Each side is asked once, since a side may be a pile itself.
     pub(crate) fn sides(&self) -> Option<(Shape, Shape)>
         ensures { Asked self.now.live (P.Part.means self.now.first) (Q.Part.means self.now.second) result }
     {
-        let first = self.first.shape();
-        let second = self.second.shape();
-        if self.live & fit(first, second) {
-            Some((first, second))
-        } else {
-            None
-        }
-    }
-
-    // Time passes on both sides of a dead part too, and it stays dead whatever becomes of their erasures.
-    pub(crate) fn pass_dead(&mut self, n: u32) -> Result<Progress, PartFault>
-        ensures answer { result ≡ answer (pass_no n) n Idle }
-        ensures dead { self.new.live ≡ false }
-        ensures first { P.Part.means self.new.first ≡ after_pass (P.Part.means self.old.first) n }
-        ensures second { Q.Part.means self.new.second ≡ after_pass (Q.Part.means self.old.second) n }
-    {
-        self.live = false;
-        let _ = self.second.pass(n);
-        self.first.pass(n)?;
-        Ok(Progress::Idle)
+        self.live.then(|| (self.first.shape(), self.second.shape()))
     }
 }

@@ -1,3 +1,4 @@
 pub mod Clocks
 pub mod Granting
 pub mod Lasting
+pub mod Standings

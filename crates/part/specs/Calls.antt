@@ -4,7 +4,7 @@ use Rattle.std.specs.Prelude.{◌≡◌, ℕ, ◌-◌, ◌≤◌, Bool, true, fa
 use Rattle.refusal.specs.declared.Cause.{Cause}
 use Rattle.refusal.specs.declared.Cause.TheVariants.{AddressOutside, NoSuchBlock, TimeTooLong, ErasureInTheWay, Guarded, NeedsErase, Worn}
 use Rattle.refusal.specs.Numbers.{number_of}
-use Rattle.geometry.specs.declared.tables.Block.{Block}
+use Rattle.geometry.specs.declared.block.Block.{Block}
 use Rattle.geometry.specs.Blocks.{start_of, wiped}
 -- that a byte has a 1 where the cell has a 0, and the longest time of one call, are the chip's
 pub use Rattle.chip.specs.Writes.{needs_erase}
@@ -27,6 +27,11 @@ answer (Some cause) place x = Err (record { cause = cause; place = place })
 abbrev pub stands : Option Erasure → Bool
 stands None = false
 stands (Some e) = true
+
+-- an erasure runs
+abbrev pub runs : Option Erasure → Bool
+runs None = false
+runs (Some e) = e.running
 
 -- an erasure hides a block: all blocks while it runs, its own while it is suspended
 abbrev pub hides : Option Erasure → ℕ → Bool

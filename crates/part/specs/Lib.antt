@@ -3,3 +3,4 @@ pub mod Faults
 pub mod Laws
 pub mod Meaning
 pub mod Standings
+pub mod Words

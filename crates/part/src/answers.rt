@@ -1,9 +1,12 @@
 // What the calls of a part answer.
-ghost use Rattle.std.specs.Prelude.{◌≡◌};
-ghost use Rattle.part.specs.Standings.{stood};
+ghost use Rattle.std.specs.Prelude.{◌≡◌, Some};
+ghost use Rattle.part.specs.Standings.{stood, ran, hid};
+ghost use Rattle.part.specs.Words.{progress_text};
+
+use std::fmt;
 
 // What a pass found.
-#[derive(Clone, Copy)]
+#[derive(Clone, Copy, Debug, PartialEq, Eq)]
 pub enum Progress {
     // No erasure.
     Idle,
@@ -17,15 +20,29 @@ pub enum Progress {
     Worn,
 }
 
+impl fmt::Display for Progress {
+    ghost output = { λ p. Some (progress_text p) };
+
+    fn fmt<W: fmt::Write>(&self, f: &mut fmt::Formatter<W>) -> fmt::Result {
+        f.write_str(match self {
+            Progress::Idle => "no erasure",
+            Progress::Running => "still running",
+            Progress::Suspended => "suspended",
+            Progress::Finished => "finished",
+            Progress::Worn => "ended in a worn block",
+        })
+    }
+}
+
 // Whether hold or go on found something to do.
-#[derive(Clone, Copy)]
+#[derive(Clone, Copy, Debug, PartialEq, Eq)]
 pub enum Turn {
     Done,
     Nothing,
 }
 
 // Which erasure stands, and in which block.
-#[derive(Clone, Copy)]
+#[derive(Clone, Copy, Debug, PartialEq, Eq)]
 pub enum Standing {
     Idle,
     Running(u32),
@@ -37,16 +54,30 @@ impl Standing {
     pub fn stands(self) -> bool
         ensures { result ≡ stood self }
     {
+        matches!(self, Standing::Running(_) | Standing::Suspended(_))
+    }
+
+    // Whether an erasure runs.
+    pub fn runs(self) -> bool
+        ensures { result ≡ ran self }
+    {
+        matches!(self, Standing::Running(_))
+    }
+
+    // Whether the cells of a block are hidden: of every block while an erasure runs, of its own while it is suspended.
+    pub fn hides(self, block: u32) -> bool
+        ensures { result ≡ hid self block }
+    {
         match self {
             Standing::Idle => false,
             Standing::Running(_) => true,
-            Standing::Suspended(_) => true,
+            Standing::Suspended(own) => own == block,
         }
     }
 }
 
 // A part at a glance.
-#[derive(Clone, Copy)]
+#[derive(Clone, Copy, Debug, PartialEq, Eq)]
 pub struct Shape {
     // How many bytes it has.
     pub size: u32,

@@ -8,21 +8,21 @@ ghost use Rattle.refusal.specs.Numbers.{number_of};
 #[derive(Clone, Copy, PartialEq, Eq, Debug)]
 pub enum Cause {
     // An address at or past the end.
-    AddressOutside,
+    AddressOutside = 1,
     // A block that there is not.
-    NoSuchBlock,
+    NoSuchBlock = 2,
     // A time over the longest that one call may pass.
-    TimeTooLong,
+    TimeTooLong = 3,
     // A number, or a memory's length, with which nothing can be made.
-    UnfitMaking,
+    UnfitMaking = 4,
     // An erasure that runs, or is suspended, where the call cannot go on beside it.
-    ErasureInTheWay,
+    ErasureInTheWay = 5,
     // A guarded block.
-    Guarded,
+    Guarded = 6,
     // A bit of a cell that is 0 would have to become 1.
-    NeedsErase,
+    NeedsErase = 7,
     // A worn block.
-    Worn,
+    Worn = 8,
 }
 
 impl Cause {
@@ -30,15 +30,6 @@ impl Cause {
     pub fn number(self) -> u8
         ensures { result ≡ number_of self }
     {
-        match self {
-            Cause::AddressOutside => 1,
-            Cause::NoSuchBlock => 2,
-            Cause::TimeTooLong => 3,
-            Cause::UnfitMaking => 4,
-            Cause::ErasureInTheWay => 5,
-            Cause::Guarded => 6,
-            Cause::NeedsErase => 7,
-            Cause::Worn => 8,
-        }
+        self as u8
     }
 }

@@ -1,5 +1,5 @@
 -- A chip as it comes from the factory: FFh throughout.
-use Rattle.std.specs.Prelude.{◌≡◌, ℕ, ◌*◌, true, replicate, Ok, Err, Result, ◌≢◌}
+use Rattle.std.specs.Prelude.{◌≡◌, ◌*◌, true, replicate, Ok, Err, Result, ◌≢◌}
 use Rattle.refusal.specs.declared.Cause.TheVariants.{UnfitMaking}
 use Rattle.geometry.specs.Plans.{plan_of}
 use Rattle.chip.specs.declared.chip.Chip.{Chip}
@@ -9,6 +9,7 @@ use Rattle.chip.specs.Flash.{view}
 use Rattle.chip.specs.Making.{fresh}
 use Rattle.part.specs.declared.answers.Standing.TheVariants.{Idle}
 use Rattle.array.specs.declared.array.Array.{Array}
+use Rattle.array.specs.declared.array.Layout.{Layout}
 use Rattle.array.specs.Limits as arrays
 use Rattle.array.specs.Means.{equal_blocks, means}
 use Rattle.workbench.specs.declared.trouble.Trouble.{Trouble}
@@ -27,11 +28,11 @@ Blank s (Err Memory) = Unit {0}
 Blank s (Err (Output e)) = ⊥
 Blank s (Err Late) = ⊥
 
--- An array of so many blocks of this size with FFh throughout, or a refusal because the numbers do not fit, or no memory for it.
-abbrev pub BlankArray : ℕ → ℕ → Result Array Trouble → Type 0
-BlankArray count width (Ok x) = (arrays.fit count width (count * width) ≡ true) × (means x ≡ equal_blocks count width (replicate (count * width) 0xFF) Idle 0)
-BlankArray count width (Err (Refused f)) = ⊥
-BlankArray count width (Err (Part f)) = (arrays.fit count width (count * width) ≢ true) × (f ≡ record { cause = UnfitMaking; place = 0 })
-BlankArray count width (Err Memory) = Unit {0}
-BlankArray count width (Err (Output e)) = ⊥
-BlankArray count width (Err Late) = ⊥
+-- An array laid out so with FFh throughout, or a refusal because the numbers do not fit, or no memory for it.
+abbrev pub BlankArray : Layout → Result Array Trouble → Type 0
+BlankArray l (Ok x) = (arrays.fit l (l.count * l.width) ≡ true) × (means x ≡ equal_blocks l (replicate (l.count * l.width) 0xFF) Idle 0)
+BlankArray l (Err (Refused f)) = ⊥
+BlankArray l (Err (Part f)) = (arrays.fit l (l.count * l.width) ≢ true) × (f ≡ record { cause = UnfitMaking; place = 0 })
+BlankArray l (Err Memory) = Unit {0}
+BlankArray l (Err (Output e)) = ⊥
+BlankArray l (Err Late) = ⊥

@@ -2,7 +2,9 @@
 #![tactic(auto)]
 
 mod blank;
+mod commands;
 mod trouble;
 
-pub use blank::{blank_array, blank_chip};
+pub use blank::{BENCH_CHIP, blank_array, blank_chip};
+pub use commands::{command, erase, program};
 pub use trouble::Trouble;

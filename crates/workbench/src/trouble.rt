@@ -5,21 +5,24 @@ use chip::ChipFault;
 use part::PartFault;
 use std::alloc::AllocError;
 use std::io;
+use thiserror::Error;
 
 // What can stop a program of the workbench.
-#[derive(Debug, Drop)]
+#[derive(Debug, Drop, Error)]
 pub enum Trouble {
-    // The chip refused a call.
+    #[error("the chip refused a call: cause {}, at {}", .0.cause.number(), .0.place)]
     Chip(ChipFault),
-    // A part refused a call.
+    #[error("a part refused a call: cause {}, at {}", .0.cause.number(), .0.place)]
     Part(PartFault),
-    // There was no memory for a chip's cells.
+    #[error("there is no memory for the cells")]
     Memory,
-    // The output could not be written.
+    #[error("the output could not be written: {0}")]
     Output(io::Error),
-    // The chip did not finish in the time that its data sheet allows.
+    #[error("the chip did not finish in the time that its data sheet allows")]
     Late,
 }
+
+// The conversions are by hand, since `#[from]` writes none of the contracts that say which trouble `?` makes.
 
 impl From<ChipFault> for Trouble {
     ghost from_gives = { λ f r. r ≡ Chip f };

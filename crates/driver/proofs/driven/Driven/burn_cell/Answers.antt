@@ -9,22 +9,22 @@ pub program-requires : goal.program-requires
 program-requires c =
     let s = c.args.self.now in
     record {
-      ready = burn_ready (view s.chip) s.standing (all_sound s.chip) s.follows c.args.address c.args.byte c.requires;
-      clear = burn_clear (view s.chip) s.standing (all_sound s.chip) s.follows c.args.address c.args.byte c.requires;
+      ready = burn_ready (view s.bus.chip) s.standing (all_sound s.bus.chip) s.follows c.args.address c.args.byte c.requires;
+      clear = burn_clear (view s.bus.chip) s.standing (all_sound s.bus.chip) s.follows c.args.address c.args.byte c.requires;
     }
 
 pub invariant_of-self : goal.invariant_of-self
 invariant_of-self c =
     let s = c.args.self.now in
-    let f = view s.chip in
-    let g = view c.program.new.chip in
+    let f = view s.bus.chip in
+    let g = view c.program.new.self.chip in
     record {
-      knows = subst (Knows s.guards) (sym (burn_setup f s.standing (all_sound s.chip) s.follows c.args.address c.args.byte c.requires g c.program.ensures.chip)) s.knows;
-      follows = burn_tied f s.standing (all_sound s.chip) s.follows c.args.address c.args.byte c.requires g c.program.ensures.chip;
+      knows = subst (Knows s.guards) (sym (burn_setup f s.standing (all_sound s.bus.chip) s.follows c.args.address c.args.byte c.requires g c.program.ensures.chip)) s.knows;
+      follows = burn_tied f s.standing (all_sound s.bus.chip) s.follows c.args.address c.args.byte c.requires g c.program.ensures.chip;
     }
 
 pub returns : goal.returns
 returns c =
     let s = c.args.self.now in
-    burn_means (view s.chip) s.standing (all_sound s.chip) s.follows c.args.address c.args.byte c.requires
-    c.program.result (view c.program.new.chip) c.program.ensures.answer c.program.ensures.chip
+    burn_means (view s.bus.chip) s.standing (all_sound s.bus.chip) s.follows c.args.address c.args.byte c.requires
+    c.program.result (view c.program.new.self.chip) c.program.ensures.answer c.program.ensures.chip

@@ -13,7 +13,7 @@ use Rattle.driver.proofs.driven.Driven.pass_running.Goals as goal
 pub invariant_of-self : goal.invariant_of-self
 invariant_of-self c =
     let s = c.args.self.now in
-    let f = view s.chip in
+    let f = view s.bus.chip in
     let x = too_long c.args.n c.in_err-pass.field-0.0 (sym c.pass.ensures.answer ∙ c.in_err-pass.was) in
     let e : view c.pass.new.self ≡ f = c.pass.ensures.chip ∙ no_time c.args.n f x.0 in
     record {
@@ -24,7 +24,7 @@ invariant_of-self c =
 pub returns-in_err-pass : goal.returns-in_err-pass
 returns-in_err-pass c =
     let s = c.args.self.now in
-    let f = view s.chip in
+    let f = view s.bus.chip in
     let n = c.args.n in
     let x = too_long n c.in_err-pass.field-0.0 (sym c.pass.ensures.answer ∙ c.in_err-pass.was) in
     let e : view c.pass.new.self ≡ f = c.pass.ensures.chip ∙ no_time n f x.0 in
@@ -39,28 +39,28 @@ invariant_of-self-2 c =
     let s = c.args.self.now in
     let n = c.args.n in
     let short = short_enough n (sym c.pass.ensures.answer ∙ c.in_ok-pass.was) in
-    let l = looks (view s.chip) s.standing c.args.block n c.start_of-at.result (view c.pass.new.self) (view c.look-verdict.new.chip)
-    c.look-verdict.result (all_sound s.chip) s.follows c.requires short c.start_of-at.ensures c.pass.ensures.chip
+    let l = looks (view s.bus.chip) s.standing c.args.block n c.start_of-at.result (view c.pass.new.self) (view c.look-verdict.new.self.chip)
+    c.look-verdict.result (all_sound s.bus.chip) s.follows c.requires short c.start_of-at.ensures c.pass.ensures.chip
     c.look-verdict.ensures.verdict c.look-verdict.ensures.chip in
     record {
       knows = subst (Knows s.guards) (sym l.same_setup) s.knows;
-      follows = ap (tied (view c.look-verdict.new.chip)) c.stands_after-self.ensures ∙ l.ties;
+      follows = ap (tied (view c.look-verdict.new.self.chip)) c.stands_after-self.ensures ∙ l.ties;
     }
 
 pub returns : goal.returns
 returns c =
     let s = c.args.self.now in
-    let f = view s.chip in
+    let f = view s.bus.chip in
     let n = c.args.n in
     let short = short_enough n (sym c.pass.ensures.answer ∙ c.in_ok-pass.was) in
-    let l = looks f s.standing c.args.block n c.start_of-at.result (view c.pass.new.self) (view c.look-verdict.new.chip)
-    c.look-verdict.result (all_sound s.chip) s.follows c.requires short c.start_of-at.ensures c.pass.ensures.chip
+    let l = looks f s.standing c.args.block n c.start_of-at.result (view c.pass.new.self) (view c.look-verdict.new.self.chip)
+    c.look-verdict.result (all_sound s.bus.chip) s.follows c.requires short c.start_of-at.ensures c.pass.ensures.chip
     c.look-verdict.ensures.verdict c.look-verdict.ensures.chip in
     record {
       answer =
-          ap Ok (c.progress_of.ensures ∙ sym l.tells ∙ ap (λ (t : Standing). progress (meaning f t) n (erasure_in f t)) (sym c.requires))
+          ap Ok (c.into.ensures ∙ sym l.tells ∙ ap (λ (t : Standing). progress (meaning f t) n (erasure_in f t)) (sym c.requires))
           ∙ sym (granted_answer n _ short);
       passed =
-          ap (meaning (view c.look-verdict.new.chip)) c.stands_after-self.ensures ∙ l.means
+          ap (meaning (view c.look-verdict.new.self.chip)) c.stands_after-self.ensures ∙ l.means
           ∙ ap (λ (t : Standing). passed (meaning f t) n) (sym c.requires) ∙ sym (cond-true _ _ _ short);
     }

@@ -9,14 +9,14 @@ use Rattle.driver.proofs.driven.Driven.pass_still.Goals as goal
 pub invariant_of-self : goal.invariant_of-self
 invariant_of-self c =
     let s = c.args.self.now in
-    let w = waited_still c.args.n (view s.chip) (view c.pass.new.self) s.standing (all_sound s.chip) s.follows c.requires c.pass.ensures.chip in
+    let w = waited_still c.args.n (view s.bus.chip) (view c.pass.new.self) s.standing (all_sound s.bus.chip) s.follows c.requires c.pass.ensures.chip in
     record { knows = subst (Knows s.guards) (sym w.same_setup) s.knows; follows = w.ties }
 
 pub returns-in_err-pass : goal.returns-in_err-pass
 returns-in_err-pass c =
     let s = c.args.self.now in
     let n = c.args.n in
-    let w = waited_still n (view s.chip) (view c.pass.new.self) s.standing (all_sound s.chip) s.follows c.requires c.pass.ensures.chip in
+    let w = waited_still n (view s.bus.chip) (view c.pass.new.self) s.standing (all_sound s.bus.chip) s.follows c.requires c.pass.ensures.chip in
     let p = err_from_is_err_and c.from_residual.result c.from_residual.ensures.1 in
     let x = too_long n c.in_err-pass.field-0.0 (sym c.pass.ensures.answer ∙ c.in_err-pass.was) in
     record {
@@ -28,7 +28,7 @@ pub returns : goal.returns
 returns c =
     let s = c.args.self.now in
     let n = c.args.n in
-    let w = waited_still n (view s.chip) (view c.pass.new.self) s.standing (all_sound s.chip) s.follows c.requires c.pass.ensures.chip in
+    let w = waited_still n (view s.bus.chip) (view c.pass.new.self) s.standing (all_sound s.bus.chip) s.follows c.requires c.pass.ensures.chip in
     record {
       answer = sym (granted_answer n tt (short_enough n (sym c.pass.ensures.answer ∙ c.in_ok-pass.was)));
       passed = w.means;

@@ -11,7 +11,7 @@ use Rattle.driver.proofs.driven.Driven.read.Goals as goal
 pub invariant_of-self : goal.invariant_of-self
 invariant_of-self c =
     let s = c.args.self.now in
-    let f = view s.chip in
+    let f = view s.bus.chip in
     let a = c.args.address in
     let e = c.read.ensures.chip in
     record {
@@ -19,25 +19,25 @@ invariant_of-self c =
       follows = ap (λ (x : Flash). tied x s.standing) e ∙ (seen_same f s.standing a).0 ∙ s.follows;
     }
 
-pub returns-in_err-byte : goal.returns-in_err-byte
-returns-in_err-byte c =
+pub returns-in_err-read : goal.returns-in_err-read
+returns-in_err-read c =
     let s = c.args.self.now in
-    let f = view s.chip in
+    let f = view s.bus.chip in
     let a = c.args.address in
     let p = err_from_is_err_and c.from_residual.result c.from_residual.ensures.1 in
-    let was : answered f a ≡ Err c.in_err-byte.field-0.0 = sym c.read.ensures.answer ∙ c.in_err-byte.was in
+    let was : answered f a ≡ Err c.in_err-read.field-0.0 = sym c.read.ensures.answer ∙ c.in_err-read.was in
     record {
-      answer = rw (p.1, p.2) (read_err f s.standing (all_sound s.chip) s.follows a c.in_err-byte.field-0.0 was);
+      answer = rw (p.1, p.2) (read_err f s.standing (all_sound s.bus.chip) s.follows a c.in_err-read.field-0.0 was);
       same = ap (λ (x : Flash). meaning x s.standing) c.read.ensures.chip ∙ (seen_same f s.standing a).1;
     }
 
 pub returns : goal.returns
 returns c =
     let s = c.args.self.now in
-    let f = view s.chip in
+    let f = view s.bus.chip in
     let a = c.args.address in
-    let was : answered f a ≡ Ok c.in_ok-byte.byte = sym c.read.ensures.answer ∙ c.in_ok-byte.was in
+    let was : answered f a ≡ Ok c.in_ok-read.field-0 = sym c.read.ensures.answer ∙ c.in_ok-read.was in
     record {
-      answer = read_ok f s.standing (all_sound s.chip) s.follows a c.in_ok-byte.byte was;
+      answer = read_ok f s.standing (all_sound s.bus.chip) s.follows a c.in_ok-read.field-0 was;
       same = ap (λ (x : Flash). meaning x s.standing) c.read.ensures.chip ∙ (seen_same f s.standing a).1;
     }

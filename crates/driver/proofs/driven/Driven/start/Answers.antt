@@ -11,25 +11,25 @@ use Rattle.driver.proofs.driven.Driven.start.Goals as goal
 pub erase-requires : goal.erase-requires
 erase-requires c =
     let s = c.args.self.now in
-    let f = view s.chip in
+    let f = view s.bus.chip in
     record {
-      ready = begin_ready f s.standing (all_sound s.chip) s.follows c.args.block c.requires;
-      inside = ap (λ (a : ℕ). inside f a) c.start_of-at.ensures ∙ begin_inside f s.standing (all_sound s.chip) s.follows c.args.block c.requires;
+      ready = begin_ready f s.standing (all_sound s.bus.chip) s.follows c.args.block c.requires;
+      inside = ap (λ (a : ℕ). inside f a) c.start_of-at.ensures ∙ begin_inside f s.standing (all_sound s.bus.chip) s.follows c.args.block c.requires;
     }
 
 pub invariant_of-self : goal.invariant_of-self
 invariant_of-self c =
     let s = c.args.self.now in
-    let f = view s.chip in
+    let f = view s.bus.chip in
     let e = c.erase.ensures ∙ ap (λ (a : ℕ). with_state f (Erasing (record { phase = Window; selected = block_mask f a; left = 50; toggle = false }))) c.start_of-at.ensures in
     record {
       knows = subst (Knows s.guards) (sym (ap (λ (x : Flash). x.setup) e)) s.knows;
-      follows = begin_tied f s.standing (all_sound s.chip) s.follows c.args.block c.requires (view c.erase.new.chip) e;
+      follows = begin_tied f s.standing (all_sound s.bus.chip) s.follows c.args.block c.requires (view c.erase.new.self.chip) e;
     }
 
 pub returns : goal.returns
 returns c =
     let s = c.args.self.now in
-    let f = view s.chip in
+    let f = view s.bus.chip in
     let e = c.erase.ensures ∙ ap (λ (a : ℕ). with_state f (Erasing (record { phase = Window; selected = block_mask f a; left = 50; toggle = false }))) c.start_of-at.ensures in
-    begin_means f s.standing (all_sound s.chip) s.follows c.args.block c.requires (view c.erase.new.chip) e
+    begin_means f s.standing (all_sound s.bus.chip) s.follows c.args.block c.requires (view c.erase.new.self.chip) e

@@ -1,52 +1,69 @@
-use Rattle.joined.proofs.Whole.{seen, burn_first_way, burns_first_way, burn_first, burns_first, burn_second_way, burns_second_way, burn_second, burns_second}
+use Rattle.std.proofs.Common.{◌≡◌, rules}
+use Rattle.part.specs.Calls.{answer, burn_no, Burnt}
+use Rattle.joined.specs.Pile.{placed}
+use Rattle.joined.proofs.Fitting.{fits_burnt_first, fits_burnt_second}
+use Rattle.joined.proofs.Whole.{seen, burn_first, burns_first, burn_second, burns_second}
 use Rattle.joined.proofs.calls.JoinedPart.burn.Goals as goal
 
-pub returns-then-stands : goal.returns-then-stands
-returns-then-stands g c =
+pub invariant_of-self : goal.invariant_of-self
+invariant_of-self g c =
     let s = c.args.self.now in
     let m = g.P.Part.means s.first in
     let n = g.Q.Part.means s.second in
-    let v = seen s.live m n c.in-Some.first c.in-Some.second (g.met.P.Part.lawful s.first) (g.met.Q.Part.lawful s.second) c.in-Some.ensures in
-    record {
-      answer = burn_first_way s.live m n c.in-Some.first c.in-Some.second v c.args.address c.if-address-first.true c.args.byte c.stands.result c.stands.ensures c.if-stands.true;
-      burnt = burns_first_way s.live m n c.in-Some.first c.in-Some.second v c.args.address c.if-address-first.true c.args.byte c.stands.result c.stands.ensures c.if-stands.true;
-    }
+    let m' = g.P.Part.means c.beside.new.busy in
+    let n' = g.Q.Part.means c.beside.new.idle in
+    let burnt : Burnt m c.args.address c.args.byte m' = search rules in
+    record { together = λ l. fits_burnt_first m n c.args.address c.args.byte m' n' (s.together l) burnt c.beside.ensures.waited }
 
-pub returns-then-address-first : goal.returns-then-address-first
-returns-then-address-first g c =
+pub invariant_of-self-in-Some-2 : goal.invariant_of-self-in-Some-2
+invariant_of-self-in-Some-2 g c =
     let s = c.args.self.now in
     let m = g.P.Part.means s.first in
     let n = g.Q.Part.means s.second in
-    let v = seen s.live m n c.in-Some.first c.in-Some.second (g.met.P.Part.lawful s.first) (g.met.Q.Part.lawful s.second) c.in-Some.ensures in
-    record {
-      answer = burn_first s.live m n c.in-Some.first c.in-Some.second v c.args.address c.if-address-first.true c.args.byte c.stands.result c.stands.ensures c.burn.result c.if-stands.false c.burn.ensures.answer;
-      burnt =
-          burns_first s.live m n c.in-Some.first c.in-Some.second v c.args.address c.if-address-first.true c.args.byte c.stands.result c.stands.ensures (g.P.Part.means c.burn.new.busy)
-          (g.Q.Part.means c.burn.new.idle) c.if-stands.false c.burn.ensures.burnt c.burn.ensures.beside;
-    }
+    let m' = g.P.Part.means c.beside-in-Some-2.new.idle in
+    let n' = g.Q.Part.means c.beside-in-Some-2.new.busy in
+    let i = c.in-Some.inner in
+    let burnt : Burnt n i c.args.byte n' = search rules in
+    record { together = λ l. fits_burnt_second m n i c.args.byte m' n' (s.together l) burnt c.beside-in-Some-2.ensures.waited }
 
-pub returns-then-inner-second : goal.returns-then-inner-second
-returns-then-inner-second g c =
+pub returns-in-None-2-clause-answer : goal.returns-in-None-2-clause-answer
+returns-in-None-2-clause-answer g c =
     let s = c.args.self.now in
     let m = g.P.Part.means s.first in
     let n = g.Q.Part.means s.second in
-    let v = seen s.live m n c.in-Some.first c.in-Some.second (g.met.P.Part.lawful s.first) (g.met.Q.Part.lawful s.second) c.in-Some.ensures in
-    record {
-      answer = burn_second_way s.live m n c.in-Some.first c.in-Some.second v c.args.address c.if-address-first.false c.args.byte c.stands-2.result c.stands-2.ensures c.if-inner-second.true;
-      burnt = burns_second_way s.live m n c.in-Some.first c.in-Some.second v c.args.address c.if-address-first.false c.args.byte c.stands-2.result c.stands-2.ensures c.if-inner-second.true;
-    }
+    let v = seen s.live m n c.in_ok-first.first c.in_ok-first.second (g.met.P.Part.lawful s.first) (g.met.Q.Part.lawful s.second) (search rules) in
+    let answered : c.beside.result ≡ answer (burn_no m c.args.address c.args.byte) c.args.address tt = search rules in
+    burn_first _ _ _ _ _ v c.args.address (search rules) c.args.byte (search rules) c.beside.result answered
 
-pub returns : goal.returns
-returns g c =
+pub returns-in-None-2-clause-burnt : goal.returns-in-None-2-clause-burnt
+returns-in-None-2-clause-burnt g c =
     let s = c.args.self.now in
     let m = g.P.Part.means s.first in
     let n = g.Q.Part.means s.second in
-    let v = seen s.live m n c.in-Some.first c.in-Some.second (g.met.P.Part.lawful s.first) (g.met.Q.Part.lawful s.second) c.in-Some.ensures in
-    record {
-      answer =
-          burn_second s.live m n c.in-Some.first c.in-Some.second v c.args.address c.if-address-first.false c.args.byte c.stands-2.result c.stands-2.ensures c.burn-2.result c.placed.result
-          c.if-inner-second.false c.burn-2.ensures.answer c.placed.ensures;
-      burnt =
-          burns_second s.live m n c.in-Some.first c.in-Some.second v c.args.address c.if-address-first.false c.args.byte c.stands-2.result c.stands-2.ensures (g.P.Part.means c.burn-2.new.idle)
-          (g.Q.Part.means c.burn-2.new.busy) c.if-inner-second.false c.burn-2.ensures.burnt c.burn-2.ensures.beside;
-    }
+    let v = seen s.live m n c.in_ok-first.first c.in_ok-first.second (g.met.P.Part.lawful s.first) (g.met.Q.Part.lawful s.second) (search rules) in
+    let m' = g.P.Part.means c.beside.new.busy in
+    let n' = g.Q.Part.means c.beside.new.idle in
+    let burnt : Burnt m c.args.address c.args.byte m' = search rules in
+    burns_first _ _ _ _ _ v c.args.address (search rules) c.args.byte (search rules) m' n' burnt c.beside.ensures.waited
+
+pub returns-in-Some-2-clause-answer : goal.returns-in-Some-2-clause-answer
+returns-in-Some-2-clause-answer g c =
+    let s = c.args.self.now in
+    let m = g.P.Part.means s.first in
+    let n = g.Q.Part.means s.second in
+    let v = seen s.live m n c.in_ok-first.first c.in_ok-first.second (g.met.P.Part.lawful s.first) (g.met.Q.Part.lawful s.second) (search rules) in
+    let i = c.in-Some.inner in
+    let answered : c.beside-in-Some-2.result ≡ placed (answer (burn_no n i c.args.byte) i tt) c.args.address = search rules in
+    burn_second _ _ _ _ _ v c.args.address i (search rules) c.args.byte (λ k. search rules) c.beside-in-Some-2.result answered
+
+pub returns-in-Some-2-clause-burnt : goal.returns-in-Some-2-clause-burnt
+returns-in-Some-2-clause-burnt g c =
+    let s = c.args.self.now in
+    let m = g.P.Part.means s.first in
+    let n = g.Q.Part.means s.second in
+    let v = seen s.live m n c.in_ok-first.first c.in_ok-first.second (g.met.P.Part.lawful s.first) (g.met.Q.Part.lawful s.second) (search rules) in
+    let i = c.in-Some.inner in
+    let m' = g.P.Part.means c.beside-in-Some-2.new.idle in
+    let n' = g.Q.Part.means c.beside-in-Some-2.new.busy in
+    let burnt : Burnt n i c.args.byte n' = search rules in
+    burns_second _ _ _ _ _ v c.args.address i (search rules) c.args.byte (λ k. search rules) m' n' burnt c.beside-in-Some-2.ensures.waited
