@@ -66,7 +66,7 @@ def repeated_methods():
 def facts():
     seen = collections.defaultdict(list)
     for name, text in sources():
-        for match in re.finditer(r"requires(?: \w+)? \{ (.*) \}", text):
+        for match in re.finditer(r"(?:requires|ensures)(?: \w+)? \{ (.*) \}", text):
             fact = re.sub(r"\b(self|chip|busy|idle)\.(old|now)\b", "_", match.group(1))
             seen[fact].append(f"{name}:{text.count(chr(10), 0, match.start()) + 1}")
     return [f"{fact}: {', '.join(at)}" for fact, at in sorted(seen.items()) if len(at) > 2]
@@ -89,13 +89,13 @@ LISTS = [
     ("1 numbers for kinds or refusals", lambda: lines(r"\bkind: u8|^pub const \w+: u8|=> [0-9],$|fn number")),
     ("2 names that stand twice", repeated_names),
     ("2 methods that stand twice, word for word", repeated_methods),
-    ("2 arms that differ in a type alone", lambda: lines(r"=> (walk::\w+::<)?(Top|Bottom|Bench|Dead)\b")),
+    ("2 arms that differ in a type alone", lambda: lines(r"=> (walk::\$?\w+::<)?(Top|Bottom|Bench|Dead)\b")),
     ("3 loops", lambda: lines(r"^\s*(for|while|loop)\b.*\{")),
     ("4 conversions and names by hand", lambda: lines(r"^impl.* (From|TryFrom|PartialEq|Eq|Ord|PartialOrd|Clone|Debug|Display).* for |=> \"|fn \w+_of\(\w+: \w+\) ->")),
-    ("5 facts required three times or more", facts),
+    ("5 facts that stand in clauses three times or more", facts),
     ("5 parameters that go together three times or more", companions),
     ("6 arrays with a length, and parallel ones", lambda: lines(r": \[\w+; \w+\]|const (LENGTH|BLOCKS)\b")),
-    ("7 switches on what to run, pointers and boxes", lambda: lines(r"match kind|: fn\(|\bdyn\b|impl Fn")),
+    ("7 switches on what to run, pointers and boxes", lambda: lines(r"match \$?kind|: fn\(|\bdyn\b|impl Fn")),
 ]
 
 for title, make in LISTS:

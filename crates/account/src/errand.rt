@@ -3,15 +3,15 @@ use crate::record::{self, RECORD};
 use part::{Part, Progress, Turn};
 use workbench::Trouble;
 
-// An errand on a part, and where the account of it is printed.
+/// An errand on a part, and where the account of it is printed.
 #[derive(Drop)]
 pub struct Errand<'a, P> {
     pub rt: &'a HostRuntime,
     pub name: &'static str,
     pub part: P,
-    // The record's first address.
+    /// The record's first address.
     pub at: u32,
-    // The block that is erased.
+    /// The block that is erased.
     pub block: u32,
 }
 
@@ -22,7 +22,7 @@ impl<P: Part> Errand<'_, P> {
 
     fn store(&mut self) -> Result<(), Trouble> {
         let since = self.part.clock();
-        for (address, &byte) in (self.at..).zip(RECORD.iter()) {
+        for (&byte, address) in RECORD.iter().zip(self.at..) {
             self.part.burn(address, byte)?;
         }
         println!(self.rt;
@@ -67,7 +67,7 @@ impl<P: Part> Errand<'_, P> {
         Err(Trouble::Late)
     }
 
-    // The whole errand, with an account of it.
+    /// The whole errand, with an account of it.
     pub fn run(&mut self) -> Result<(), Trouble> {
         let shape = self.part.shape();
         println!(self.rt;

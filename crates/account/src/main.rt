@@ -1,4 +1,4 @@
-// A day at the bench: what a technician does with one chip, by bus cycles and time alone, and what is seen of it.
+//! A day at the bench: what a technician does with one chip, by bus cycles and time alone, and what is seen of it.
 #![tactic(auto)]
 
 mod errand;

@@ -14,7 +14,7 @@ where
     requires { F.IsAlwaysCallable read }
 {
     let mut whole = true;
-    for (address, &byte) in (at..).zip(RECORD.iter()) {
+    for (&byte, address) in RECORD.iter().zip(at..) {
         let cell = read(address)?;
         whole &= cell == byte;
         print!(rt; " {cell:02X}h")?;

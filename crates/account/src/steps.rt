@@ -9,7 +9,7 @@ const RECORD_AT: u32 = 0x400;
 // The neighbour, block 2, which is erased.
 const NEIGHBOUR: u32 = 0x600;
 
-// A chip on the bench, and where the account of it is printed.
+/// A chip on the bench, and where the account of it is printed.
 #[derive(Drop)]
 pub struct Bench<'a> {
     pub rt: &'a HostRuntime,
@@ -32,7 +32,7 @@ impl Bench<'_> {
         Ok(())
     }
 
-    // ID mode: the maker, and the kind of chip.
+    /// ID mode: the maker, and the kind of chip.
     pub fn identify(&mut self) -> Result<(), Trouble> {
         workbench::command(&mut self.chip, 0x90)?;
         let maker = self.chip.read(0)?;
@@ -43,7 +43,7 @@ impl Bench<'_> {
         Ok(())
     }
 
-    // ID mode again, once in each block: is it protected?
+    /// ID mode again, once in each block: is it protected?
     pub fn find_guards(&mut self) -> Result<(), Trouble> {
         println!(self.rt; "Asked which blocks are protected:")?;
         for (number, block) in self.chip.table().iter().enumerate() {
@@ -64,10 +64,10 @@ impl Bench<'_> {
         Ok(())
     }
 
-    // Programs the record byte by byte, and sees by the status bits when each is done.
+    /// Programs the record byte by byte, and sees by the status bits when each is done.
     pub fn store_record(&mut self) -> Result<(), Trouble> {
         println!(self.rt; "\nA stop's name is stored at the beginning of block 1:")?;
-        for (address, &byte) in (RECORD_AT..).zip(RECORD.iter()) {
+        for (&byte, address) in RECORD.iter().zip(RECORD_AT..) {
             let seen = self.program(address, byte)?;
             self.tell(address, seen)?;
         }
@@ -82,7 +82,7 @@ impl Bench<'_> {
         self.tell(0, seen)
     }
 
-    // Something old in block 2, so that its erase can be seen.
+    /// Something old in block 2, so that its erase can be seen.
     pub fn spoil_neighbour(&mut self) -> Result<(), Trouble> {
         println!(self.rt; "\nBlock 2 holds an old setting:")?;
         let seen = self.program(NEIGHBOUR, 0x00)?;
@@ -114,7 +114,7 @@ impl Bench<'_> {
         Ok(())
     }
 
-    // Reads the record cell by cell, and says whether each is what was stored.
+    /// Reads the record cell by cell, and says whether each is what was stored.
     pub fn read_record(&mut self) -> Result<(), Trouble> {
         print!(self.rt; "\nBlock 1 reads")?;
         let verdict = if record::read_back(self.rt, RECORD_AT, |address| self.chip.read(address))? {

@@ -9,17 +9,17 @@ const TOGGLE: u8 = 0x40;
 // DQ5, which says that the chip has failed.
 const FAILED: u8 = 0x20;
 
-// What was seen of an operation from its start to its end.
+/// What was seen of an operation from its start to its end.
 #[derive(Clone, Copy, Debug, PartialEq, Eq)]
 pub struct Watch {
-    // The first two bytes read.
+    /// The first two bytes read.
     pub first: u8,
     pub second: u8,
-    // The last byte read.
+    /// The last byte read.
     pub last: u8,
-    // Whether DQ5 said that the chip failed.
+    /// Whether DQ5 said that the chip failed.
     pub failed: bool,
-    // Microseconds from the start to the end.
+    /// Microseconds from the start to the end.
     pub spent: u32,
 }
 
@@ -38,7 +38,7 @@ impl Bench<'_> {
         Ok((self.chip.read(address)?, self.chip.read(address)?))
     }
 
-    // Reads twice at each turn, with `pause` microseconds between turns, until DQ6 stops toggling or DQ5 says failed.
+    /// Reads twice at each turn, with `pause` microseconds between turns, until DQ6 stops toggling or DQ5 says failed.
     pub fn follow(&mut self, address: u32, pause: u32) -> Result<Watch, Trouble> {
         let begun = self.chip.clock();
         let (first, second) = self.read_twice(address)?;
@@ -62,7 +62,7 @@ impl Bench<'_> {
         Err(Trouble::Late)
     }
 
-    // Programs one byte and watches it to the end.
+    /// Programs one byte and watches it to the end.
     pub fn program(&mut self, address: u32, byte: u8) -> Result<Watch, Trouble> {
         workbench::program(&mut self.chip, address, byte)?;
         self.follow(address, 1)

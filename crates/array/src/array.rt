@@ -4,12 +4,12 @@ ghost use Rattle.array.specs.Limits.{in_blocks};
 use geometry::Block;
 use part::Standing;
 
-// How an array is laid out: equal blocks.
+/// How an array is laid out: equal blocks.
 #[derive(Clone, Copy, Debug, PartialEq, Eq)]
 pub struct Layout {
-    // How many blocks there are.
+    /// How many blocks there are.
     pub count: u32,
-    // How many bytes each has.
+    /// How many bytes each has.
     pub width: u32,
 }
 
@@ -27,7 +27,7 @@ impl Layout {
     }
 }
 
-// Equal blocks in plain memory. A burn and an erasure take 1 microsecond, and a hold none.
+/// Equal blocks in plain memory. A burn and an erasure take 1 microsecond, and a hold none.
 // No `impl Model`: what an array means is `means` of the trait `Part`, and `lawful` is proved from the ghost fields.
 #[derive(Drop)]
 pub struct Array {

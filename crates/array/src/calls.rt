@@ -5,11 +5,12 @@ ghost use Rattle.part.specs.Calls.{can_hold, can_go};
 ghost use Rattle.array.specs.Facts;
 
 use crate::array::Array;
-use chip::LONGEST;
+use chip::short_enough;
 use geometry::Block;
 use part::{Part, PartFault, Progress, Shape, Standing, Turn, granted};
 use refusal::Cause;
 
+// hold and go_on mirror one another, here and in the driver; one function for both would take what to do as a closure, and be no plainer.
 impl Part for Array {
     ghost means = { meaning };
 
@@ -26,11 +27,7 @@ impl Part for Array {
 
     #[tactic(auto, using(crate::proofs::Rules::array_rules))]
     fn block(&self, number: u32) -> Option<Block> {
-        if number < self.layout.count {
-            Some(self.layout.block(number))
-        } else {
-            None
-        }
+        (number < self.layout.count).then(|| self.layout.block(number))
     }
 
     #[tactic(auto, using(crate::proofs::Rules::array_rules))]
@@ -54,9 +51,9 @@ impl Part for Array {
         Ok(())
     }
 
-    #[tactic(auto, using(crate::proofs::Rules::array_rules))]
+    #[tactic(auto, using(crate::proofs::Rules::array_rules, part::proofs::Standings::begin_no_is))]
     fn begin(&mut self, block: u32) -> Result<(), PartFault> {
-        granted(self.begin_no(block), block)?;
+        granted(self.shape().begin_no(block, false), block)?;
         self.stand(Standing::Running(block));
         Ok(())
     }
@@ -83,12 +80,7 @@ impl Part for Array {
     }
 
     fn pass(&mut self, n: u32) -> Result<Progress, PartFault> {
-        if n > LONGEST {
-            return Err(PartFault {
-                cause: Cause::TimeTooLong,
-                place: n,
-            });
-        }
+        short_enough(n)?;
         let progress = self.run(n);
         self.count_time(n);
         Ok(progress)

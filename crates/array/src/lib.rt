@@ -1,4 +1,4 @@
-// The array: equal blocks in plain memory, as a part.
+//! The array: equal blocks in plain memory, as a part.
 #![tactic(auto)]
 
 mod array;

@@ -27,7 +27,7 @@ const NO_BLOCKS: Layout = Layout {
 };
 
 impl Array {
-    // Refuses numbers outside their limits and memory of another size.
+    /// Refuses numbers outside their limits and memory of another size.
     pub fn check(layout: Layout, memory: &[u8]) -> Result<(), PartFault>
         ensures { result ≡ checked layout (length memory.now) }
     {
@@ -56,7 +56,7 @@ impl Array {
         }
     }
 
-    // An array on this memory; a dead one, with no blocks, where `check` refuses it.
+    /// An array on this memory; a dead one, with no blocks, where `check` refuses it.
     #[tactic(auto, using(part::proofs::Lasting::part_laws))]
     pub fn new(layout: Layout, mut memory: Vec<u8>) -> Array
         ensures part { means result ≡ made layout memory.items }

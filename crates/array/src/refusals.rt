@@ -1,12 +1,10 @@
-// Why an array refuses a call. The driver asks the same of its own record: one function over any part cannot be called from
-// within a part's own impl, which the check does not cover.
+// Why an array refuses to peek and to burn.
 ghost use Rattle.std.specs.Prelude.{◌≡◌};
 ghost use Rattle.part.specs.Meaning.{size, cell};
-ghost use Rattle.part.specs.Calls.{peek_no, burn_no, begin_no};
+ghost use Rattle.part.specs.Calls.{peek_no, burn_no};
 ghost use Rattle.array.specs.Means.{means};
 
 use crate::array::Array;
-use chip::needs_erase;
 use refusal::Cause;
 
 impl Array {
@@ -41,25 +39,8 @@ impl Array {
     {
         if address >= self.size() {
             Some(Cause::AddressOutside)
-        } else if self.standing.stands() {
-            Some(Cause::ErasureInTheWay)
-        } else if needs_erase(self.cell(address), byte) {
-            Some(Cause::NeedsErase)
         } else {
-            None
-        }
-    }
-
-    #[tactic(auto, using(crate::proofs::Rules::array_rules))]
-    pub(crate) fn begin_no(&self, block: u32) -> Option<Cause>
-        ensures { result ≡ begin_no (means self.now) block }
-    {
-        if block >= self.layout.count {
-            Some(Cause::NoSuchBlock)
-        } else if self.standing.stands() {
-            Some(Cause::ErasureInTheWay)
-        } else {
-            None
+            self.standing.burn_no(false, self.cell(address), byte)
         }
     }
 }

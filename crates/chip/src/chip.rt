@@ -5,8 +5,8 @@ ghost use Rattle.chip.specs.Setups.{in_limits};
 use crate::setup::Setup;
 use crate::state::State;
 
-// A chip: the numbers it was made with, its cells, what it is doing, and the microseconds that have passed on it,
-// modulo 4,294,967,296. It has exactly as many cells as its geometry says, which are none where it is dead.
+/// A chip: the numbers it was made with, its cells, what it is doing, and the microseconds that have passed on it,
+/// modulo 4,294,967,296. It has exactly as many cells as its geometry says, which are none where it is dead.
 // No `impl Model`: the laws over every chip are proved from the ghost fields, which a model would hide; `view` is what contracts see.
 #[derive(Drop)]
 pub struct Chip {

@@ -3,7 +3,7 @@ ghost use Rattle.chip.specs.Commands.{decided};
 
 use crate::state::{Decision, Mode, Place};
 
-// The two addresses at which commands are written, in their low fifteen bits.
+/// The two addresses at which commands are written, in their low fifteen bits.
 pub const FIRST: u32 = 0x5555;
 
 pub const SECOND: u32 = 0x2AAA;

@@ -10,10 +10,11 @@ use crate::chip::Chip;
 use crate::fault::ChipFault;
 use refusal::Cause;
 
-// The longest time, in microseconds, that may pass in one call.
+/// The longest time, in microseconds, that may pass in one call.
 pub const LONGEST: u32 = 1_000_000_000;
 
-fn short_enough(n: u32) -> Result<(), ChipFault>
+/// Refuses a time over the longest.
+pub fn short_enough(n: u32) -> Result<(), ChipFault>
     ensures { result ≡ waited n }
 {
     if n <= LONGEST {
@@ -40,8 +41,8 @@ impl Chip {
         }
     }
 
-    // A write cycle. An address outside is refused, and nothing changes. Address and byte are two numbers here and in all that follows from a
-    // write, as they are on the wires: a pair would be taken apart in each.
+    /// A write cycle. An address outside is refused, and nothing changes. Address and byte are two numbers here and in all that follows from a
+    /// write, as they are on the wires: a pair would be taken apart in each.
     #[tactic(auto, using(crate::proofs::WriteLaws::write_laws), unfolding(crate::specs::Writes::heard, crate::specs::Writes::written))]
     pub fn write(&mut self, address: u32, byte: u8) -> Result<(), ChipFault>
         ensures answer { result ≡ heard (view self.old) address }
@@ -53,7 +54,7 @@ impl Chip {
         Ok(())
     }
 
-    // A read cycle. An address outside is refused, and nothing changes.
+    /// A read cycle. An address outside is refused, and nothing changes.
     #[tactic(auto, using(crate::proofs::WriteLaws::read_laws), unfolding(crate::specs::Reads::answered, crate::specs::Reads::seen))]
     pub fn read(&mut self, address: u32) -> Result<u8, ChipFault>
         ensures answer { result ≡ answered (view self.old) address }
@@ -66,7 +67,7 @@ impl Chip {
         Ok(byte)
     }
 
-    // Lets n microseconds pass. A time over 1,000,000,000 is refused, and nothing changes.
+    /// Lets n microseconds pass. A time over 1,000,000,000 is refused, and nothing changes.
     #[tactic(auto, using(crate::proofs::PassLaws::pass_laws), unfolding(crate::specs::Times::after))]
     pub fn pass(&mut self, n: u32) -> Result<(), ChipFault>
         ensures answer { result ≡ waited n }

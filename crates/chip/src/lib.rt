@@ -1,4 +1,4 @@
-// A NOR flash chip as its bus sees it: write and read cycles, time, and the reset pin.
+//! A NOR flash chip as its bus sees it: write and read cycles, time, and the reset pin.
 #![tactic(auto)]
 
 mod blocks;
@@ -16,8 +16,8 @@ mod writes;
 
 pub use chip::Chip;
 pub use commands::{FIRST, SECOND};
-pub use cycles::LONGEST;
+pub use cycles::{LONGEST, short_enough};
 pub use fault::ChipFault;
-pub use setup::Setup;
+pub use setup::{LONGEST_ERASE, LONGEST_PROGRAM, LONGEST_SUSPENSION, Setup};
 pub use state::{Decision, Erase, Mode, Phase, Place, Program, State};
 pub use writes::needs_erase;

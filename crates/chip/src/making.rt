@@ -1,7 +1,7 @@
 // The making of a chip, and what can be asked of it.
 ghost use Rattle.std.specs.Prelude.{◌≡◌, ◌≤◌, true, length, vec_len};
 ghost use Rattle.geometry.specs.Blocks.{block_of};
-ghost use Rattle.geometry.specs.Plans.{plan_of, starts_of, sizes_of, block_at};
+ghost use Rattle.geometry.specs.Plans.{plan_of, IsTable, block_at};
 ghost use Rattle.chip.specs.Setups.{in_limits, fit};
 ghost use Rattle.chip.specs.Flash.{view, size, blocks};
 ghost use Rattle.chip.specs.Making.{checked, fresh, made};
@@ -11,7 +11,7 @@ ghost use Rattle.chip.specs.Examples.{WorkedExamples};
 use crate::blocks::ALL;
 use crate::chip::Chip;
 use crate::fault::ChipFault;
-use crate::setup::Setup;
+use crate::setup::{LONGEST_ERASE, LONGEST_PROGRAM, LONGEST_SUSPENSION, Setup};
 use crate::time::READ_MODE;
 use geometry::Block;
 use refusal::Cause;
@@ -29,9 +29,9 @@ impl Setup {
     fn in_limits(&self) -> bool
         ensures { result ≡ in_limits self.now }
     {
-        (1..=300).contains(&self.program)
-            && (1..=10_000_000).contains(&self.erase)
-            && (1..=15).contains(&self.suspend)
+        (1..=LONGEST_PROGRAM).contains(&self.program)
+            && (1..=LONGEST_ERASE).contains(&self.erase)
+            && (1..=LONGEST_SUSPENSION).contains(&self.suspend)
             && self.protected <= ALL
             && self.worn <= ALL
     }
@@ -43,7 +43,7 @@ impl Setup {
         self.kind < geometry::DEAD && self.in_limits() && len == geometry::size(self.kind) as usize
     }
 
-    // Refuses numbers outside their limits and memory that has not the geometry's size.
+    /// Refuses numbers outside their limits and memory that has not the geometry's size.
     pub fn check(&self, memory: &[u8]) -> Result<(), ChipFault>
         ensures { result ≡ checked self.now (length memory.now) }
     {
@@ -72,7 +72,7 @@ impl Chip {
         }
     }
 
-    // A chip on this memory; a dead one, of size 0, where `Setup::check` refuses it.
+    /// A chip on this memory; a dead one, of size 0, where `Setup::check` refuses it.
     #[tactic(auto, using(crate::proofs::PassLaws::all_sound, crate::proofs::Worked::worked_examples), unfolding(crate::specs::Making::made))]
     pub fn new(setup: Setup, mut memory: Vec<u8>) -> Chip
         ensures chip { view result ≡ made setup memory.items }
@@ -86,36 +86,35 @@ impl Chip {
         Chip::fresh(NO_CHIP, memory)
     }
 
-    // How many bytes the chip has.
+    /// How many bytes the chip has.
     pub fn size(&self) -> u32
         ensures { result ≡ size (view self.now) }
     {
         geometry::size(self.setup.kind)
     }
 
-    // How many blocks the chip has.
+    /// How many blocks the chip has.
     pub fn blocks(&self) -> usize
         ensures { result ≡ length (blocks (view self.now)) }
     {
         geometry::count(self.setup.kind)
     }
 
-    // The blocks, one after the other.
+    /// The blocks, one after the other.
     pub fn table(&self) -> &'static [Block]
-        ensures starts { starts_of result.now ≡ (plan_of self.now.setup.kind).starts }
-        ensures sizes { sizes_of result.now ≡ (plan_of self.now.setup.kind).sizes }
+        ensures { IsTable (plan_of self.now.setup.kind) result.now }
     {
         geometry::table(self.setup.kind)
     }
 
-    // Where a block begins and how many bytes it has; none where there is no such block.
+    /// Where a block begins and how many bytes it has; none where there is no such block.
     pub fn block(&self, number: usize) -> Option<Block>
         ensures { result ≡ block_at (plan_of self.now.setup.kind) number }
     {
         geometry::nth_block(self.setup.kind, number)
     }
 
-    // The block that an address lies in; the number of blocks where the address is outside.
+    /// The block that an address lies in; the number of blocks where the address is outside.
     pub fn block_at(&self, address: u32) -> usize
         ensures value { result ≡ block_of (blocks (view self.now)) address }
         ensures bound { result ≤ 11 }
@@ -123,14 +122,14 @@ impl Chip {
         geometry::block_at(self.setup.kind, address)
     }
 
-    // The chip's device code.
+    /// The chip's device code.
     pub fn code(&self) -> u8
         ensures { result ≡ (plan_of self.now.setup.kind).code }
     {
         geometry::code(self.setup.kind)
     }
 
-    // The microseconds that have passed on the chip, modulo 4,294,967,296.
+    /// The microseconds that have passed on the chip, modulo 4,294,967,296.
     pub fn clock(&self) -> u32
         ensures { result ≡ (view self.now).clock }
     {

@@ -14,7 +14,7 @@ fn status_byte(byte: u8, toggle: bool, failed: bool, begun: bool) -> u8
     let toggle = if toggle { 0x40 } else { 0 };
     let failed = if failed { 0x20 } else { 0 };
     let begun = if begun { 0x08 } else { 0 };
-    inverse + toggle + failed + begun
+    inverse | toggle | failed | begun
 }
 
 impl Erase {

@@ -14,12 +14,9 @@ impl Chip {
     fn break_erase(&mut self, e: Erase)
         ensures { view self.new ≡ with_cells (view self.old) (broken_erase (view self.old) e e.phase) self.old.state }
     {
-        match e.phase {
-            Phase::Window => {}
-            Phase::Erasing => {
-                let sound = without(self.erasable(e.selected), self.setup.worn);
-                self.fill(sound, 0x00);
-            }
+        if e.phase == Phase::Erasing {
+            let sound = without(self.erasable(e.selected), self.setup.worn);
+            self.fill(sound, 0x00);
         }
     }
 
@@ -42,7 +39,7 @@ impl Chip {
         }
     }
 
-    // A pulse on the reset pin. It takes no time.
+    /// A pulse on the reset pin. It takes no time.
     #[tactic(auto, using(crate::proofs::PassLaws::reset_laws), unfolding(crate::specs::Resets::after_reset))]
     pub fn reset(&mut self)
         ensures chip { view self.new ≡ after_reset (view self.old) }

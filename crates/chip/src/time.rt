@@ -5,13 +5,12 @@ ghost use Rattle.chip.specs.Flash.{view, with_cells, blocks};
 ghost use Rattle.chip.specs.Times.{burnt, programmed, spoils, erase_time, erased, ended, due, lowered, steps, with_clock};
 
 use crate::chip::Chip;
+use crate::setup::LONGEST_ERASE;
 use crate::state::{Erase, Mode, Phase, Place, Program, State};
 use crate::writes::needs_erase;
 
 // Microseconds that the erasing lasts where every selected block is protected.
 const REFUSED_ERASE: u32 = 50;
-// Microseconds for each block after which an erase fails.
-const FAILED_ERASE: u32 = 10_000_000;
 
 pub(crate) const READ_MODE: State = State::Ready(Mode::Read, Place::Start);
 
@@ -87,7 +86,7 @@ impl Chip {
     fn spoils(&self, selected: u32) -> bool
         ensures { result ≡ spoils (view self.now) selected }
     {
-        self.erasable(selected) & self.setup.worn >= 1
+        self.erasable(selected) & self.setup.worn != 0
     }
 
     fn erase_time(&self, selected: u32) -> u32
@@ -95,7 +94,7 @@ impl Chip {
     {
         let count = self.erasable(selected).count_ones();
         let each = if self.spoils(selected) {
-            FAILED_ERASE
+            LONGEST_ERASE
         } else {
             self.setup.erase
         };

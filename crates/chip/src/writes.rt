@@ -4,6 +4,7 @@ ghost use Rattle.chip.specs.Flash.{view};
 ghost use Rattle.chip.specs.Writes.{needs_erase, program_time, block_mask, obeyed, interrupted, heeded};
 
 use crate::chip::Chip;
+use crate::setup::LONGEST_PROGRAM;
 use crate::state::{Decision, Erase, Mode, Phase, Place, Program, State};
 use crate::time::READ_MODE;
 
@@ -11,10 +12,8 @@ use crate::time::READ_MODE;
 const WINDOW: u32 = 50;
 // Microseconds that the chip is busy with a byte in a protected block.
 const REFUSED_PROGRAM: u32 = 3;
-// Microseconds after which a program fails.
-const FAILED_PROGRAM: u32 = 300;
 
-// Whether the byte has a 1 where the cell has a 0.
+/// Whether the byte has a 1 where the cell has a 0.
 pub fn needs_erase(old: u8, byte: u8) -> bool
     ensures { result ≡ needs_erase old byte }
 {
@@ -28,7 +27,7 @@ impl Chip {
         if self.lies_in(self.setup.protected, address) {
             REFUSED_PROGRAM
         } else if self.lies_in(self.setup.worn, address) || needs_erase(self.cell(address), byte) {
-            FAILED_PROGRAM
+            LONGEST_PROGRAM
         } else {
             self.setup.program
         }
@@ -72,10 +71,9 @@ impl Chip {
             (_, 0xB0) => State::Suspending(erase, self.setup.suspend),
             (Phase::Erasing, _) => State::Erasing(erase),
             (Phase::Window, 0x30) => State::Erasing(Erase {
-                phase: Phase::Window,
                 selected: erase.selected | self.block_mask(address),
                 left: WINDOW, // counted from this 30h on
-                toggle: erase.toggle,
+                ..erase
             }),
             (Phase::Window, _) => READ_MODE,
         }
@@ -90,7 +88,7 @@ impl Chip {
                 mode,
                 address,
                 byte,
-                place.decide(address % 0x8000, byte),
+                place.decide(address & 0x7FFF, byte),
             ),
             State::Erasing(erase) => self.interrupt(erase, address, byte),
             State::Suspended(erase) if byte == 0x30 => State::Erasing(erase),

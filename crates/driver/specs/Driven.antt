@@ -1,5 +1,5 @@
 -- What a driven chip means as a part, and what ties the driver's record of an erasure to the chip.
-use Rattle.std.specs.Prelude.{ℕ, zero, suc, ◌+◌, ◌^◌, Bool, true, false, not, ◌&&◌, List, [], ◌∷◌, length, Some, None, Option, ◌==◌, nat_le, nat_lt}
+use Rattle.std.specs.Prelude.{ℕ, zero, suc, ◌+◌, ◌%◌, ◌^◌, Bool, true, false, not, ◌&&◌, List, [], ◌∷◌, length, Some, None, Option, ◌==◌, nat_le, nat_lt}
 use Rattle.geometry.specs.Blocks.{bit}
 use Rattle.chip.specs.declared.state.Mode.{Mode}
 use Rattle.chip.specs.declared.state.Mode.TheVariants.{Read, Id}
@@ -20,6 +20,10 @@ use Rattle.part.specs.Meaning.{Erasure, Meaning}
 abbrev pub marks : ℕ → ℕ → ℕ → List Bool
 marks first zero mask = []
 marks first (suc n) mask = bit mask first ∷ marks (first + 1) n mask
+
+-- the protected blocks that there are, block b as bit b
+abbrev pub guards_of : Flash → ℕ
+guards_of f = f.setup.protected % 2 ^ length (blocks f)
 
 -- microseconds until the end of an erase, the window counted in
 abbrev pub left_of : Flash → Erase → Phase → ℕ

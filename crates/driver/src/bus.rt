@@ -11,9 +11,9 @@ use crate::verdict::{Verdict, judge};
 use chip::{Chip, FIRST, SECOND};
 
 // A chip on its wires: cycles and time, without a refusal to handle. Where a cycle is refused the chip does nothing, and a
-// read is 0. (The workbench has the command sequences for chips that may refuse; those end at a refusal and answer it.)
-// What an operation needs of the chip's state stands in its `requires`: three begin in read mode and three need a chip that has an
-// address 0, from different callers, and a type for each such state would be one more wrapper around the chip.
+// read is 0. The workbench has the same sequences for chips that may refuse; those end at a refused write and answer it.
+// What an operation needs of the chip's state stands in its `requires`: three begin in read mode, three need an address 0, and a
+// type for each such state would be one more wrapper around the chip.
 #[derive(Drop)]
 pub(crate) struct Bus {
     pub(crate) chip: Chip,

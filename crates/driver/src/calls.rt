@@ -92,14 +92,8 @@ impl Part for Driven {
     fn pass(&mut self, n: u32) -> Result<Progress, PartFault> {
         match self.standing {
             Standing::Running(block) => self.pass_running(block, n),
-            Standing::Idle => {
-                self.pass_still(n)?;
-                Ok(Progress::Idle)
-            }
-            Standing::Suspended(_) => {
-                self.pass_still(n)?;
-                Ok(Progress::Suspended)
-            }
+            Standing::Idle => self.pass_still(n).map(|()| Progress::Idle),
+            Standing::Suspended(_) => self.pass_still(n).map(|()| Progress::Suspended),
         }
     }
 }

@@ -1,4 +1,4 @@
-// The driver: a chip of any geometry as a part, by bus cycles and time alone.
+//! The driver: a chip of any geometry as a part, by bus cycles and time alone.
 #![tactic(auto)]
 
 mod bus;

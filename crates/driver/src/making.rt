@@ -7,7 +7,7 @@ ghost use Rattle.chip.specs.Flash.{view, blocks};
 ghost use Rattle.chip.specs.Writes.{read_mode};
 ghost use Rattle.chip.specs.Resets.{after_reset};
 ghost use Rattle.part.specs.declared.answers.Standing.TheVariants.{Idle};
-ghost use Rattle.driver.specs.Driven.{meaning};
+ghost use Rattle.driver.specs.Driven.{guards_of, meaning};
 ghost use Rattle.driver.specs.Means.{means};
 
 use crate::bus::Bus;
@@ -20,7 +20,7 @@ impl Bus {
     #[tactic(auto, using(crate::proofs::Guarding::guard_fits))]
     fn collect(&mut self) -> u32
         requires { (b : ℕ) → b < length (blocks (view self.old.chip)) → (view self.old.chip).state ≡ Ready Id Start }
-        ensures value { result ≡ (view self.old.chip).setup.protected % 2 ^ length (blocks (view self.old.chip)) }
+        ensures value { result ≡ guards_of (view self.old.chip) }
         ensures same { view self.new.chip ≡ view self.old.chip }
     {
         let mut guards = 0u32;
@@ -35,7 +35,7 @@ impl Bus {
     // Reads the guards of a chip in read mode, and leaves it there.
     fn read_guards(&mut self) -> u32
         requires { (view self.old.chip).state ≡ read_mode }
-        ensures value { result ≡ (view self.old.chip).setup.protected % 2 ^ length (blocks (view self.old.chip)) }
+        ensures value { result ≡ guards_of (view self.old.chip) }
         ensures same { view self.new.chip ≡ view self.old.chip }
     {
         self.command(0x90);
@@ -46,7 +46,7 @@ impl Bus {
 }
 
 impl Driven {
-    // Takes a chip: resets it, and reads its guards in ID mode.
+    /// Takes a chip: resets it, and reads its guards in ID mode.
     pub fn new(mut chip: Chip) -> Driven
         ensures { means result ≡ meaning (after_reset (view chip)) Idle }
     {

@@ -6,6 +6,7 @@ ghost use Rattle.driver.specs.Work.{Clear, programs, programmed};
 
 use crate::bus::Bus;
 use crate::verdict::Verdict;
+use chip::LONGEST_PROGRAM;
 
 impl Bus {
     // Polls a chip that has begun to program a byte until it is done or has failed, and tells whether it is done. After a failure
@@ -16,7 +17,7 @@ impl Bus {
         ensures answer { result ≡ not (worn (view self.old.chip) address) }
         ensures chip { view self.new.chip ≡ programmed (view self.old.chip) address byte }
     {
-        for _turn in 0..300u32 {
+        for _turn in 0..LONGEST_PROGRAM {
             match self.poll(address, byte) {
                 Verdict::Busy => {}
                 Verdict::Done => return true,
@@ -29,7 +30,8 @@ impl Bus {
         false
     }
 
-    // Programs a byte and tells whether it worked: it does not in a worn block.
+    // Programs a byte and tells whether it worked: it does not in a worn block. A `bool`, since it fails in one way alone, and the caller of the part is
+    // told its cause and place.
     #[tactic(auto, using(crate::proofs::Commands::begins_program))]
     pub(crate) fn program(&mut self, address: u32, byte: u8) -> bool
         requires ready { (view self.old.chip).state ≡ read_mode }

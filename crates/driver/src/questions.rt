@@ -1,7 +1,7 @@
 // What the driver knows of its chip.
 ghost use Rattle.std.specs.Prelude.{◌≡◌};
 ghost use Rattle.part.specs.Meaning.{count, block, guarded};
-ghost use Rattle.part.specs.Calls.{stands, hides};
+ghost use Rattle.part.specs.Calls.{hides};
 ghost use Rattle.driver.specs.Means.{means};
 
 use crate::driven::Driven;
@@ -24,13 +24,6 @@ impl Driven {
         ensures { result ≡ block (means self.now) address }
     {
         self.bus.chip.block_at(address) as u32
-    }
-
-    #[tactic(auto, using(crate::specs::Tying::stood_of))]
-    pub(crate) fn stands(&self) -> bool
-        ensures { result ≡ stands (means self.now).erasure }
-    {
-        self.standing.stands()
     }
 
     // Whether the erasure hides an address.

@@ -6,8 +6,7 @@ ghost use Rattle.driver.specs.Means.{means};
 ghost use Rattle.driver.specs.Steps.{Read, burn_why, Burns, Programmed};
 
 use crate::driven::Driven;
-use chip::needs_erase;
-use part::{PartFault, Standing, granted};
+use part::{Part, PartFault, Standing, granted};
 use refusal::Cause;
 
 impl Driven {
@@ -22,15 +21,8 @@ impl Driven {
     fn burn_no(&self, address: u32, old: u8, byte: u8) -> Option<Cause>
         ensures { result ≡ burn_why (means self.now) address old byte }
     {
-        if self.stands() {
-            Some(Cause::ErasureInTheWay)
-        } else if self.guards_block(self.block_at(address)) {
-            Some(Cause::Guarded)
-        } else if needs_erase(old, byte) {
-            Some(Cause::NeedsErase)
-        } else {
-            None
-        }
+        let guarded = self.guards_block(self.block_at(address));
+        self.standing.burn_no(guarded, old, byte)
     }
 
     // Refuses a burn at an address inside, whose cell is `old`, for every cause but a worn block.
@@ -48,26 +40,13 @@ impl Driven {
         self.bus.program(address, byte)
     }
 
-    // The array asks the same of its own record (see there why each has its own).
-    fn begin_no(&self, block: u32) -> Option<Cause>
-        ensures { result ≡ begin_no (means self.now) block }
-    {
-        if block >= self.count() {
-            Some(Cause::NoSuchBlock)
-        } else if self.stands() {
-            Some(Cause::ErasureInTheWay)
-        } else if self.guards_block(block) {
-            Some(Cause::Guarded)
-        } else {
-            None
-        }
-    }
-
     // Refuses the erasure of a block.
+    #[tactic(auto, using(part::proofs::Standings::begin_no_is))]
     pub(crate) fn may_begin(&self, block: u32) -> Result<(), PartFault>
         ensures { result ≡ answer (begin_no (means self.now) block) block tt }
     {
-        granted(self.begin_no(block), block)
+        let guarded = self.guards_block(block);
+        granted(self.shape().begin_no(block, guarded), block)
     }
 
     // The address at which a block begins; 0 where there is no such block.

@@ -5,6 +5,7 @@ ghost use Rattle.chip.specs.Flash.{view, with_state, inside};
 ghost use Rattle.driver.specs.Work.{erase_of, Halted};
 
 use crate::bus::Bus;
+use chip::LONGEST_SUSPENSION;
 
 impl Bus {
     // Waits until the toggle bit stands still.
@@ -13,7 +14,7 @@ impl Bus {
         requires begun { (view self.old.chip).state ≡ Suspending (erase_of (view self.old.chip).state) (view self.old.chip).setup.suspend }
         ensures { Halted (view self.old.chip) (view self.old.chip).setup.suspend (view self.new.chip) }
     {
-        for _turn in 0..15u32 {
+        for _turn in 0..LONGEST_SUSPENSION {
             if self.still(0) {
                 return;
             }

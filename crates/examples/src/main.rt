@@ -1,4 +1,4 @@
-// The worked examples of the command machine, run on a chip and compared with what they should give.
+//! The worked examples of the command machine, run on a chip and compared with what they should give.
 #![tactic(auto)]
 
 mod cycle;

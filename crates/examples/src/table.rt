@@ -1,7 +1,7 @@
 // The examples, cycle by cycle. Block 1 begins at 400h and block 2 at 600h.
 use crate::cycle::Cycle;
 
-// An example: its name as it is printed, and its steps.
+/// An example: its name as it is printed, and its steps.
 pub struct Example {
     pub name: &'static str,
     pub cycles: &'static [Cycle],

@@ -50,6 +50,11 @@ starts_of blocks = map (λ b. b.start) blocks
 abbrev pub sizes_of : List Block → List ℕ
 sizes_of blocks = map (λ b. b.size) blocks
 
+-- a table has a plan's blocks: their starts and their sizes, in order
+pub record IsTable (p : Plan) (blocks : List Block) : Type 0 where
+  pub starts : starts_of blocks ≡ p.starts
+  pub sizes : sizes_of blocks ≡ p.sizes
+
 -- an address lies in a block
 abbrev pub holds : ℕ → Block → Bool
 holds a b = nat_le b.start a && nat_lt a (b.start + b.size)

@@ -3,7 +3,7 @@ ghost use Rattle.std.specs.Prelude.{◌≡◌, ℕ, ◌+◌, ◌<◌, ◌&&◌, 
 ghost use Rattle.geometry.specs.Blocks.{bit};
 ghost use Rattle.geometry.specs.Plans.{holds};
 
-// A block: where it begins, and how many bytes it has.
+/// A block: where it begins, and how many bytes it has.
 #[derive(Clone, Copy, Debug, PartialEq, Eq)]
 pub struct Block {
     pub start: u32,
@@ -11,14 +11,14 @@ pub struct Block {
 }
 
 impl Block {
-    // Whether an address lies in the block.
+    /// Whether an address lies in the block.
     pub fn contains(self, address: u32) -> bool
         ensures { result ≡ holds address self }
     {
         address >= self.start && address - self.start < self.size
     }
 
-    // Sets the block's cells to `byte`, as far as there are cells.
+    /// Sets the block's cells to `byte`, as far as there are cells.
     #[tactic(auto, using(crate::proofs::Filling::stretch_set, std::proofs::lemmas::Grind::common_steps))]
     pub fn fill(self, cells: &mut [u8], byte: u8)
         ensures { (k : ℕ) → k < length cells.old → slice_index cells.new k ≡ (if nat_le self.start k && nat_lt k (self.start + self.size) then byte else slice_index cells.old k) }
@@ -29,9 +29,9 @@ impl Block {
     }
 }
 
-// Whether a block is one of a mask, block b as bit b.
+/// Whether a block is one of a mask, block b as bit b.
 pub fn is_marked(mask: u32, block: usize) -> bool
     ensures { result ≡ bit mask block }
 {
-    block < 32 && (mask >> block) % 2 == 1
+    block < 32 && mask >> block & 1 == 1
 }

@@ -2,19 +2,19 @@
 // A number and no enum: it is a rule of the project, and every number that a caller can write down has a meaning here.
 ghost use Rattle.std.specs.Prelude.{◌≡◌, ℕ, ◌≤◌, length};
 ghost use Rattle.geometry.specs.Blocks.{block_of, filled};
-ghost use Rattle.geometry.specs.Plans.{plan_of, starts_of, sizes_of, block_at, LaidOut};
+ghost use Rattle.geometry.specs.Plans.{plan_of, IsTable, block_at, LaidOut};
 
 use crate::block::Block;
 use crate::tables::{Bench, Bottom, Dead, Top};
 use crate::walk;
 
-// TC58FVT004
+/// TC58FVT004
 pub const TOP: u8 = 0;
-// TC58FVB004
+/// TC58FVB004
 pub const BOTTOM: u8 = 1;
-// the bench chip
+/// the bench chip
 pub const BENCH: u8 = 2;
-// no chip; every larger number means the same
+/// no chip; every larger number means the same
 pub const DEAD: u8 = 3;
 
 // The work `walk::$work` for the geometry of a number.
@@ -29,52 +29,45 @@ macro_rules! by_kind {
     };
 }
 
-// How many bytes the chip has.
+/// How many bytes the chip has.
 pub fn size(kind: u8) -> u32
     ensures { result ≡ (plan_of kind).size }
 {
     by_kind!(kind, size())
 }
 
-// The device code that the chip gives in ID mode.
+/// The device code that the chip gives in ID mode.
 pub fn code(kind: u8) -> u8
     ensures { result ≡ (plan_of kind).code }
 {
     by_kind!(kind, code())
 }
 
-// How many blocks the chip has.
+/// How many blocks the chip has.
 #[tactic(auto, using(crate::proofs::Placing::every_few, crate::proofs::Placing::every_laid_out))]
 pub fn count(kind: u8) -> usize
     ensures value { result ≡ length (plan_of kind).sizes }
     ensures bound { result ≤ 11 }
     ensures law { (kind : ℕ) → LaidOut (plan_of kind) }
 {
-    table_length(kind)
-}
-
-fn table_length(kind: u8) -> usize
-    ensures { result ≡ length (plan_of kind).sizes }
-{
     by_kind!(kind, count())
 }
 
-// The blocks, one after the other.
+/// The blocks, one after the other.
 pub fn table(kind: u8) -> &'static [Block]
-    ensures starts { starts_of result.now ≡ (plan_of kind).starts }
-    ensures sizes { sizes_of result.now ≡ (plan_of kind).sizes }
+    ensures { IsTable (plan_of kind) result.now }
 {
     by_kind!(kind, table())
 }
 
-// Where a block begins and how many bytes it has; none where there is no such block.
+/// Where a block begins and how many bytes it has; none where there is no such block.
 pub fn nth_block(kind: u8, number: usize) -> Option<Block>
     ensures { result ≡ block_at (plan_of kind) number }
 {
     by_kind!(kind, nth_block(number))
 }
 
-// The block that an address lies in; past the last block, the number of blocks.
+/// The block that an address lies in; past the last block, the number of blocks.
 pub fn block_at(kind: u8, address: u32) -> usize
     ensures value { result ≡ block_of (plan_of kind).sizes address }
     ensures bound { result ≤ 11 }
@@ -82,7 +75,7 @@ pub fn block_at(kind: u8, address: u32) -> usize
     by_kind!(kind, block_at(address))
 }
 
-// Sets each block of the mask to `byte` throughout, as far as there are cells.
+/// Sets each block of the mask to `byte` throughout, as far as there are cells.
 pub fn fill(kind: u8, cells: &mut [u8], mask: u32, byte: u8)
     ensures { cells.new ≡ filled (plan_of kind).sizes mask byte cells.old }
 {

@@ -1,4 +1,4 @@
-// The geometries: how large each chip is, and where its blocks lie.
+//! The geometries: how large each chip is, and where its blocks lie.
 #![tactic(auto)]
 
 mod block;

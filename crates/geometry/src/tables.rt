@@ -1,34 +1,34 @@
 // The geometries, each with the table of its blocks.
 ghost use Rattle.std.specs.Prelude.{◌≡◌, ℕ, ◌≤◌, length};
-ghost use Rattle.geometry.specs.Plans.{Plan, top, bottom, bench, dead, starts_of, sizes_of, Contiguous};
+ghost use Rattle.geometry.specs.Plans.{Plan, top, bottom, bench, dead, IsTable, Contiguous};
 ghost use Rattle.std.proofs.Common.{rules};
 
 use crate::block::Block;
 
-// What a geometry brings: its size, its device code and its blocks. `plan` gives them in the words of the documents; the
-// facts at the end tie the constants to it, so that code generic over a geometry knows what it is given.
+/// What a geometry brings: its size, its device code and its blocks. `plan` gives them in the words of the documents; the
+/// facts at the end tie the constants to it, so that code generic over a geometry knows what it is given. Each impl proves them itself: a macro may write
+/// no impl.
 pub trait Geometry {
-    // How many bytes the chip has.
+    /// How many bytes the chip has.
     const SIZE: u32;
 
     ghost SIZE: { ℕ };
 
-    // The device code that the chip gives in ID mode.
+    /// The device code that the chip gives in ID mode.
     const CODE: u8;
 
     ghost CODE: { ℕ };
 
-    // How many blocks the chip has. A constant beside the table, since a rule of the project wants the count as one.
+    /// How many blocks the chip has. A constant beside the table, since a rule of the project wants the count as one.
     const BLOCKS: usize;
 
     ghost BLOCKS: { ℕ };
 
     ghost plan: { Plan };
 
-    // The blocks, one after the other.
+    /// The blocks, one after the other.
     fn table() -> &'static [Block]
-        ensures starts { starts_of result.now ≡ plan.starts }
-        ensures sizes { sizes_of result.now ≡ plan.sizes };
+        ensures { IsTable plan result.now };
 
     ghost size_is: { SIZE ≡ plan.size };
 
@@ -50,7 +50,7 @@ macro_rules! blocks {
     };
 }
 
-// TC58FVT004: the small blocks lie at the top.
+/// TC58FVT004: the small blocks lie at the top.
 pub struct Top;
 
 const TOP_BLOCKS: [Block; 11] = blocks![
@@ -97,7 +97,7 @@ impl Geometry for Top {
     ghost few = { Prim.search rules };
 }
 
-// TC58FVB004: the small blocks lie at the bottom.
+/// TC58FVB004: the small blocks lie at the bottom.
 pub struct Bottom;
 
 const BOTTOM_BLOCKS: [Block; 11] = blocks![
@@ -144,7 +144,7 @@ impl Geometry for Bottom {
     ghost few = { Prim.search rules };
 }
 
-// The bench chip: TC58FVB004 with every size divided by 16.
+/// The bench chip: TC58FVB004 with every size divided by 16.
 pub struct Bench;
 
 const BENCH_BLOCKS: [Block; 11] = blocks![
@@ -191,7 +191,7 @@ impl Geometry for Bench {
     ghost few = { Prim.search rules };
 }
 
-// No chip: what is left where a chip could not be made.
+/// No chip: what is left where a chip could not be made.
 pub struct Dead;
 
 const DEAD_BLOCKS: [Block; 0] = [];

@@ -1,7 +1,8 @@
-// The chip's work over its blocks, for any geometry.
+// The chip's work over its blocks, for any geometry. `size`, `code`, `count` and `table` hand on what a geometry brings: a macro that asks
+// for them by type is refused, as it would have an item in its expansion.
 ghost use Rattle.std.specs.Prelude.{◌≡◌, length, position, slice_index};
 ghost use Rattle.geometry.specs.Blocks.{block_of, filled};
-ghost use Rattle.geometry.specs.Plans.{starts_of, sizes_of, block_at, holds};
+ghost use Rattle.geometry.specs.Plans.{IsTable, block_at, holds};
 
 use crate::block::{Block, is_marked};
 use crate::tables::Geometry;
@@ -26,8 +27,7 @@ pub(crate) fn count<G: Geometry>() -> usize
 
 // The blocks, one after the other.
 pub(crate) fn table<G: Geometry>() -> &'static [Block]
-    ensures starts { starts_of result.now ≡ G.Geometry.plan.starts }
-    ensures sizes { sizes_of result.now ≡ G.Geometry.plan.sizes }
+    ensures { IsTable G.Geometry.plan result.now }
 {
     G::table()
 }
@@ -65,7 +65,7 @@ pub(crate) fn fill<G: Geometry>(cells: &mut [u8], mask: u32, byte: u8)
     }
 }
 
-// The cell at an address; 0 where there is none.
+/// The cell at an address; 0 where there is none.
 pub fn cell_at(cells: &[u8], address: u32) -> u8
     ensures { result ≡ slice_index cells.now address }
 {

@@ -8,6 +8,8 @@ use geometry::Block;
 use part::{Part, PartFault, Progress, Shape, Standing, Turn};
 use refusal::Cause;
 
+// peek, burn and begin have one frame: which side, what is in the way, the inner place. A function for it would take two closures and four numbers,
+// and be no plainer.
 impl<P: Part + Drop, Q: Part + Drop> Part for Joined<P, Q> {
     ghost means = { λ s. meaning s.live (P.Part.means s.first) (Q.Part.means s.second) };
 
@@ -29,7 +31,7 @@ impl<P: Part + Drop, Q: Part + Drop> Part for Joined<P, Q> {
     }
 
     fn block(&self, number: u32) -> Option<Block> {
-        let (first, _second) = self.sides()?;
+        let (first, _) = self.sides()?;
         if number < first.blocks {
             self.first.block(number)
         } else {
@@ -41,7 +43,7 @@ impl<P: Part + Drop, Q: Part + Drop> Part for Joined<P, Q> {
     }
 
     fn guarded(&self, block: u32) -> bool {
-        let Some((first, _second)) = self.sides() else {
+        let Some((first, _)) = self.sides() else {
             return false;
         };
         if block < first.blocks {
@@ -101,9 +103,10 @@ impl<P: Part + Drop, Q: Part + Drop> Part for Joined<P, Q> {
     }
 
     fn hold(&mut self) -> Turn {
-        if !self.live {
-            Turn::Nothing
-        } else if self.first.shape().standing.stands() {
+        let Some((first, _)) = self.sides() else {
+            return Turn::Nothing;
+        };
+        if first.standing.stands() {
             beside(&mut self.first, &mut self.second, |side| side.hold())
         } else {
             beside(&mut self.second, &mut self.first, |side| side.hold())
@@ -111,23 +114,23 @@ impl<P: Part + Drop, Q: Part + Drop> Part for Joined<P, Q> {
     }
 
     fn go_on(&mut self) -> Turn {
-        if !self.live {
-            Turn::Nothing
-        } else if self.first.shape().standing.stands() {
+        let Some((first, _)) = self.sides() else {
+            return Turn::Nothing;
+        };
+        if first.standing.stands() {
             self.first.go_on()
         } else {
             self.second.go_on()
         }
     }
 
-    // Time passes on both sides of a dead part too, and it stays dead whatever becomes of their erasures.
     fn pass(&mut self, n: u32) -> Result<Progress, PartFault> {
-        let busy = self.first.shape().standing.stands();
+        let Some((first, _)) = self.sides() else {
+            return self.pass_dead(n);
+        };
         let before = self.first.pass(n);
         let behind = self.second.pass(n);
-        if !self.live {
-            before.map(|_| Progress::Idle)
-        } else if busy {
+        if first.standing.stands() {
             before
         } else {
             behind

@@ -1,4 +1,4 @@
-// The joined part: any two parts end to end, again a part, so that parts can be piled to any depth.
+//! The joined part: any two parts end to end, again a part, so that parts can be piled to any depth.
 #![tactic(auto)]
 
 mod calls;

@@ -1,11 +1,27 @@
 // The two sides of a joined part.
-ghost use Rattle.std.specs.Prelude.{◌≡◌};
+ghost use Rattle.std.specs.Prelude.{◌≡◌, ◌+◌, not, ◌&&◌, nat_le};
 ghost use Rattle.std.specs.Fn.{FnOnceReturnsAtMut};
 ghost use Rattle.part.specs.Calls.{after_pass};
+ghost use Rattle.part.specs.Standings.{stood};
 ghost use Rattle.joined.specs.Pile.{either_stands, Room, placed, elapsed};
 
-use part::{Part, PartFault, Standing};
+use part::{Part, PartFault, Shape, Standing};
 use refusal::Cause;
+
+// The most bytes that a part has.
+const MOST_BYTES: u64 = 16_777_216;
+
+// The most blocks that a part has.
+const MOST_BLOCKS: u64 = 1024;
+
+// Whether two parts are small enough together, and have one erasure at most.
+pub(crate) fn fit(first: Shape, second: Shape) -> bool
+    ensures { result ≡ (nat_le (first.size + second.size) 16777216 && nat_le (first.blocks + second.blocks) 1024 && not (stood first.standing && stood second.standing)) }
+{
+    u64::from(first.size) + u64::from(second.size) <= MOST_BYTES
+        && u64::from(first.blocks) + u64::from(second.blocks) <= MOST_BLOCKS
+        && !(first.standing.stands() && second.standing.stands())
+}
 
 // The one erasure of both sides, by the numbers that the blocks have in the joined part.
 pub(crate) fn either(first: Standing, second: Standing, blocks: u32) -> Standing

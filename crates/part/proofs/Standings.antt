@@ -1,8 +1,8 @@
 -- What a part tells at a glance of its erasure is so of the erasure.
 use Rattle.std.proofs.Common.{◌≡◌, ℕ, Bool, true, false, ◌||◌, eqb, Some, None, Option, refl}
-use Rattle.part.specs.Meaning.{Erasure, standing_of}
-use Rattle.part.specs.Calls.{stands, runs, hides}
-use Rattle.part.specs.Standings.{stood, ran, hid}
+use Rattle.part.specs.Meaning.{Erasure, Meaning, guarded, standing_of, shape_of}
+use Rattle.part.specs.Calls.{stands, runs, hides, begin_no}
+use Rattle.part.specs.Standings.{stood, ran, hid, shape_begin_no}
 
 pub stood_is : (e : Option Erasure) → stood (standing_of e) ≡ stands e
 stood_is None = refl
@@ -27,3 +27,6 @@ hid_is (Some e) b = by_running e.block e.left e.running
     by_running : (own l : ℕ) (r : Bool) → hid (standing_of (Some (record { block = own; left = l; running = r }))) b ≡ (r || eqb own b)
     by_running own l true = refl
     by_running own l false = refl
+
+pub begin_no_is : (m : Meaning) (b : ℕ) → shape_begin_no (shape_of m) b (guarded m b) ≡ begin_no m b
+begin_no_is m b = rw (stood_is m.erasure)

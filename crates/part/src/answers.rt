@@ -1,22 +1,24 @@
 // What the calls of a part answer.
 ghost use Rattle.std.specs.Prelude.{◌≡◌, Some};
-ghost use Rattle.part.specs.Standings.{stood, ran, hid};
+ghost use Rattle.part.specs.Standings.{stood, ran, hid, standing_burn_no, shape_begin_no};
 ghost use Rattle.part.specs.Words.{progress_text};
 
+use chip::needs_erase;
+use refusal::Cause;
 use std::fmt;
 
-// What a pass found.
+/// What a pass found.
 #[derive(Clone, Copy, Debug, PartialEq, Eq)]
 pub enum Progress {
-    // No erasure.
+    /// No erasure.
     Idle,
-    // An erasure that goes on.
+    /// An erasure that goes on.
     Running,
-    // An erasure that stands still.
+    /// An erasure that stands still.
     Suspended,
-    // An erasure that this pass ended: its block is FFh throughout.
+    /// An erasure that this pass ended: its block is FFh throughout.
     Finished,
-    // An erasure that this pass ended in a worn block, whose cells are as they were.
+    /// An erasure that this pass ended in a worn block, whose cells are as they were.
     Worn,
 }
 
@@ -34,14 +36,14 @@ impl fmt::Display for Progress {
     }
 }
 
-// Whether hold or go on found something to do.
+/// Whether hold or go on found something to do. Both are answers and neither is a refusal, so it is no `Option` and no `Result`.
 #[derive(Clone, Copy, Debug, PartialEq, Eq)]
 pub enum Turn {
     Done,
     Nothing,
 }
 
-// Which erasure stands, and in which block.
+/// Which erasure stands, and in which block.
 #[derive(Clone, Copy, Debug, PartialEq, Eq)]
 pub enum Standing {
     Idle,
@@ -50,21 +52,36 @@ pub enum Standing {
 }
 
 impl Standing {
-    // Whether an erasure stands, running or not.
+    /// Whether an erasure stands, running or not.
     pub fn stands(self) -> bool
         ensures { result ≡ stood self }
     {
         matches!(self, Standing::Running(_) | Standing::Suspended(_))
     }
 
-    // Whether an erasure runs.
+    /// Whether an erasure runs.
     pub fn runs(self) -> bool
         ensures { result ≡ ran self }
     {
         matches!(self, Standing::Running(_))
     }
 
-    // Whether the cells of a block are hidden: of every block while an erasure runs, of its own while it is suspended.
+    /// Why a burn is refused at an address inside, whose cell is `old`, worn blocks aside; none where it is not.
+    pub fn burn_no(self, guarded: bool, old: u8, byte: u8) -> Option<Cause>
+        ensures { result ≡ standing_burn_no self guarded old byte }
+    {
+        if self.stands() {
+            Some(Cause::ErasureInTheWay)
+        } else if guarded {
+            Some(Cause::Guarded)
+        } else if needs_erase(old, byte) {
+            Some(Cause::NeedsErase)
+        } else {
+            None
+        }
+    }
+
+    /// Whether the cells of a block are hidden: of every block while an erasure runs, of its own while it is suspended.
     pub fn hides(self, block: u32) -> bool
         ensures { result ≡ hid self block }
     {
@@ -76,12 +93,29 @@ impl Standing {
     }
 }
 
-// A part at a glance.
+/// A part at a glance.
 #[derive(Clone, Copy, Debug, PartialEq, Eq)]
 pub struct Shape {
-    // How many bytes it has.
+    /// How many bytes it has.
     pub size: u32,
-    // How many blocks it has.
+    /// How many blocks it has.
     pub blocks: u32,
     pub standing: Standing,
+}
+
+impl Shape {
+    /// Why a part of this shape refuses to begin the erasure of a block, of which is told whether it is guarded; none where it does not.
+    pub fn begin_no(self, block: u32, guarded: bool) -> Option<Cause>
+        ensures { result ≡ shape_begin_no self block guarded }
+    {
+        if block >= self.blocks {
+            Some(Cause::NoSuchBlock)
+        } else if self.standing.stands() {
+            Some(Cause::ErasureInTheWay)
+        } else if guarded {
+            Some(Cause::Guarded)
+        } else {
+            None
+        }
+    }
 }

@@ -1,32 +1,32 @@
-// Why a call was refused, the same for every layer.
+//! Why a call was refused, the same for every layer.
 #![tactic(auto)]
 
 ghost use Rattle.std.specs.Prelude.{◌≡◌};
 ghost use Rattle.refusal.specs.Numbers.{number_of};
 
-// The cause of a refusal. Each layer has a fault type of its own, which holds a cause and where it arose.
+/// The cause of a refusal. Each layer has a fault type of its own, which holds a cause and where it arose.
 #[derive(Clone, Copy, PartialEq, Eq, Debug)]
 pub enum Cause {
-    // An address at or past the end.
+    /// An address at or past the end.
     AddressOutside = 1,
-    // A block that there is not.
+    /// A block that there is not.
     NoSuchBlock = 2,
-    // A time over the longest that one call may pass.
+    /// A time over the longest that one call may pass.
     TimeTooLong = 3,
-    // A number, or a memory's length, with which nothing can be made.
+    /// A number, or a memory's length, with which nothing can be made.
     UnfitMaking = 4,
-    // An erasure that runs, or is suspended, where the call cannot go on beside it.
+    /// An erasure that runs, or is suspended, where the call cannot go on beside it.
     ErasureInTheWay = 5,
-    // A guarded block.
+    /// A guarded block.
     Guarded = 6,
-    // A bit of a cell that is 0 would have to become 1.
+    /// A bit of a cell that is 0 would have to become 1.
     NeedsErase = 7,
-    // A worn block.
+    /// A worn block.
     Worn = 8,
 }
 
 impl Cause {
-    // The number by which the documents and the programs name the cause.
+    /// The number by which the documents and the programs name the cause.
     pub fn number(self) -> u8
         ensures { result ≡ number_of self }
     {

@@ -9,6 +9,10 @@ use Rattle.chip.specs.Laws.{unlocked}
 abbrev pub sequence_heard : Flash → ℕ → Result (Unit {0}) ChipFault
 sequence_heard f a = cond (inside f 0x5555) (heard f a) (heard f 0x5555)
 
+-- the two unlocking writes
+abbrev pub after_unlock : Flash → Flash
+after_unlock f = cond (inside f 0x5555) (unlocked f 0x5555 0x2AAA) f
+
 -- a command of three writes
 abbrev pub after_command : Flash → ℕ → Flash
 after_command f byte = cond (inside f 0x5555) (written (unlocked f 0x5555 0x2AAA) 0x5555 byte) f

@@ -5,7 +5,7 @@ use array::{Array, Layout};
 use chip::{Chip, Setup};
 use std::alloc::Global;
 
-// The bench chip with the times of its data sheet's typical byte and a quick erase, with no block protected or worn.
+/// The bench chip with the times of its data sheet's typical byte and a quick erase, with no block protected or worn.
 pub const BENCH_CHIP: Setup = Setup {
     kind: geometry::BENCH,
     program: 16,
@@ -15,7 +15,7 @@ pub const BENCH_CHIP: Setup = Setup {
     worn: 0,
 };
 
-// A chip of these numbers as it comes from the factory, FFh throughout.
+/// A chip of these numbers as it comes from the factory, FFh throughout.
 #[tactic(auto, unfolding(chip::specs::Making::made))]
 pub fn blank_chip(heap: Global, setup: Setup) -> Result<Chip, Trouble>
     ensures { Blank setup result }
@@ -26,7 +26,7 @@ pub fn blank_chip(heap: Global, setup: Setup) -> Result<Chip, Trouble>
     Ok(Chip::new(setup, memory))
 }
 
-// An array laid out so, FFh throughout.
+/// An array laid out so, FFh throughout.
 pub fn blank_array(heap: Global, layout: Layout) -> Result<Array, Trouble>
     ensures { BlankArray layout result }
 {

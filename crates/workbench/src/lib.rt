@@ -1,4 +1,4 @@
-// What the programs of the workbench share.
+//! What the programs of the workbench share.
 #![tactic(auto)]
 
 mod blank;

@@ -5,24 +5,23 @@ use chip::ChipFault;
 use part::PartFault;
 use std::alloc::AllocError;
 use std::io;
-use thiserror::Error;
 
-// What can stop a program of the workbench.
-#[derive(Debug, Drop, Error)]
+/// What can stop a program of the workbench.
+#[derive(Debug, Drop)]
 pub enum Trouble {
-    #[error("the chip refused a call: cause {}, at {}", .0.cause.number(), .0.place)]
+    /// The chip refused a call.
     Chip(ChipFault),
-    #[error("a part refused a call: cause {}, at {}", .0.cause.number(), .0.place)]
+    /// A part refused a call.
     Part(PartFault),
-    #[error("there is no memory for the cells")]
+    /// There was no memory for a chip's cells.
     Memory,
-    #[error("the output could not be written: {0}")]
+    /// The output could not be written.
     Output(io::Error),
-    #[error("the chip did not finish in the time that its data sheet allows")]
+    /// The chip did not finish in the time that its data sheet allows.
     Late,
 }
 
-// The conversions are by hand, since `#[from]` writes none of the contracts that say which trouble `?` makes.
+// By hand, since a derive writes none of the contracts that say which trouble `?` makes.
 
 impl From<ChipFault> for Trouble {
     ghost from_gives = { λ f r. r ≡ Chip f };

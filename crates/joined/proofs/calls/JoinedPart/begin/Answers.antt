@@ -1,16 +1,6 @@
 use Rattle.std.proofs.Common.{rules}
-use Rattle.joined.proofs.Whole.{seen, begin_first, begins_first, fit_begun_second, begin_second, begins_second}
+use Rattle.joined.proofs.Whole.{seen, begin_first, begins_first, begin_second, begins_second}
 use Rattle.joined.proofs.calls.JoinedPart.begin.Goals as goal
-
-pub invariant_of-self-in-Some-2 : goal.invariant_of-self-in-Some-2
-invariant_of-self-in-Some-2 g c =
-    let s = c.args.self.now in
-    let m = g.P.Part.means s.first in
-    let n = g.Q.Part.means s.second in
-    let v = seen s.live m n c.in_ok-first.first c.in_ok-first.second (g.met.P.Part.lawful s.first) (g.met.Q.Part.lawful s.second) (search rules) in
-    record {
-      together = λ l. fit_begun_second _ _ _ _ _ v c.args.block c.in-Some.inner (search rules) (λ k. search rules) (g.Q.Part.means c.begin-in-Some-2.new.self) c.begin-in-Some-2.ensures.begun;
-    }
 
 pub returns-in-None-2-clause-answer : goal.returns-in-None-2-clause-answer
 returns-in-None-2-clause-answer g c =

@@ -10,10 +10,10 @@ map-requires g c =
     let m = g.P.Part.means s.first in
     let n = g.Q.Part.means s.second in
     let first = c.in_ok-first.first in
-    let v = seen s.live m n first c.in_ok-first._second (g.met.P.Part.lawful s.first) (g.met.Q.Part.lawful s.second) (search rules) in
+    let v = seen s.live m n first c.in_ok-first.field-0-1 (g.met.P.Part.lawful s.first) (g.met.Q.Part.lawful s.second) (search rules) in
     λ x e.
     let room : first.size + x.start < 4294967296 =
-    subst (λ (o : Option Block). LaterRoom o first.size) e (block_room s.live m n first c.in_ok-first._second v _ c.block-else-number-first.result c.block-else-number-first.ensures) in
+    subst (λ (o : Option Block). LaterRoom o first.size) e (block_room s.live m n first c.in_ok-first.field-0-1 v _ c.block-else-number-first.result c.block-else-number-first.ensures) in
     search rules
 
 pub returns-else-number-first : goal.returns-else-number-first
@@ -22,6 +22,6 @@ returns-else-number-first g c =
     let m = g.P.Part.means s.first in
     let n = g.Q.Part.means s.second in
     let first = c.in_ok-first.first in
-    let v = seen s.live m n first c.in_ok-first._second (g.met.P.Part.lawful s.first) (g.met.Q.Part.lawful s.second) (search rules) in
-    block_second s.live m n first c.in_ok-first._second v c.args.number c.block-else-number-first.result c.map.result c.if-number-first.false
+    let v = seen s.live m n first c.in_ok-first.field-0-1 (g.met.P.Part.lawful s.first) (g.met.Q.Part.lawful s.second) (search rules) in
+    block_second s.live m n first c.in_ok-first.field-0-1 v c.args.number c.block-else-number-first.result c.map.result c.if-number-first.false
     c.block-else-number-first.ensures (search rules)

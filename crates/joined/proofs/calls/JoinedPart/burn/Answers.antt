@@ -1,30 +1,8 @@
 use Rattle.std.proofs.Common.{◌≡◌, rules}
 use Rattle.part.specs.Calls.{answer, burn_no, Burnt}
 use Rattle.joined.specs.Pile.{placed}
-use Rattle.joined.proofs.Fitting.{fits_burnt_first, fits_burnt_second}
 use Rattle.joined.proofs.Whole.{seen, burn_first, burns_first, burn_second, burns_second}
 use Rattle.joined.proofs.calls.JoinedPart.burn.Goals as goal
-
-pub invariant_of-self : goal.invariant_of-self
-invariant_of-self g c =
-    let s = c.args.self.now in
-    let m = g.P.Part.means s.first in
-    let n = g.Q.Part.means s.second in
-    let m' = g.P.Part.means c.beside.new.busy in
-    let n' = g.Q.Part.means c.beside.new.idle in
-    let burnt : Burnt m c.args.address c.args.byte m' = search rules in
-    record { together = λ l. fits_burnt_first m n c.args.address c.args.byte m' n' (s.together l) burnt c.beside.ensures.waited }
-
-pub invariant_of-self-in-Some-2 : goal.invariant_of-self-in-Some-2
-invariant_of-self-in-Some-2 g c =
-    let s = c.args.self.now in
-    let m = g.P.Part.means s.first in
-    let n = g.Q.Part.means s.second in
-    let m' = g.P.Part.means c.beside-in-Some-2.new.idle in
-    let n' = g.Q.Part.means c.beside-in-Some-2.new.busy in
-    let i = c.in-Some.inner in
-    let burnt : Burnt n i c.args.byte n' = search rules in
-    record { together = λ l. fits_burnt_second m n i c.args.byte m' n' (s.together l) burnt c.beside-in-Some-2.ensures.waited }
 
 pub returns-in-None-2-clause-answer : goal.returns-in-None-2-clause-answer
 returns-in-None-2-clause-answer g c =
