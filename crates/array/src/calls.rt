@@ -8,7 +8,6 @@ use crate::array::Array;
 use chip::short_enough;
 use geometry::Block;
 use part::{Part, PartFault, Progress, Shape, Standing, Turn, granted};
-use refusal::Cause;
 
 // hold and go_on mirror one another, here and in the driver; one function for both would take what to do as a closure, and be no plainer.
 impl Part for Array {
