@@ -1,9 +1,11 @@
-//! A day at the bench: what a technician does with one chip, by bus cycles and time alone, and what is seen of it.
+//! A day at the bench: what a technician does with one chip, by bus cycles and time alone, what is seen of it, one errand on three parts, and a
+//! rehearsal on two consoles.
 #![tactic(auto)]
 
 mod errand;
 mod record;
 mod steps;
+mod together;
 mod watch;
 
 use array::Layout;
@@ -73,5 +75,6 @@ fn main(rt: HostRuntime) -> Result<(), Trouble> {
     bench.finish_erase()?;
     bench.read_record()?;
     bench.total()?;
-    three_parts(&rt)
+    three_parts(&rt)?;
+    together::run(&rt)
 }

@@ -1,6 +1,7 @@
-//! The worked examples of the command machine, run on a chip and compared with what they should give.
+//! The worked examples of the command machine and of the console, run through the code and compared with what they should give.
 #![tactic(auto)]
 
+mod books;
 mod cycle;
 mod table;
 
@@ -35,5 +36,7 @@ fn main(rt: HostRuntime) -> Result<(), Trouble> {
     for example in EXAMPLES {
         run(&rt, example)?;
     }
-    Ok(())
+    books::set_and_clear(&rt, BENCH_CHIP)?;
+    books::eight_sets(&rt, BENCH_CHIP)?;
+    books::last_position(&rt, BENCH_CHIP)
 }

@@ -23,6 +23,18 @@ pub enum Cause {
     NeedsErase = 7,
     /// A worn block.
     Worn = 8,
+    /// A console that is not open, or, for open, one that is open already.
+    OutOfTurn = 9,
+    /// Two blocks that are one, differ in size, or have a size that no book has.
+    UnfitBooks = 10,
+    /// Not exactly one book that can be read.
+    NoReadableBook = 11,
+    /// A position that the books do not have.
+    PositionOutside = 12,
+    /// A stop beyond the sixty-third.
+    StopOutside = 13,
+    /// The books have to change, and the other one is spoilt.
+    SpareSpoilt = 14,
 }
 
 impl Cause {

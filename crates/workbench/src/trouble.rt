@@ -1,7 +1,8 @@
 ghost use Rattle.std.specs.Prelude.{◌≡◌};
-ghost use Rattle.workbench.specs.declared.trouble.Trouble.TheVariants.{Chip, Part, Memory, Output};
+ghost use Rattle.workbench.specs.declared.trouble.Trouble.TheVariants.{Chip, Part, Console, Memory, Output};
 
 use chip::ChipFault;
+use console::ConsoleFault;
 use part::PartFault;
 use std::alloc::AllocError;
 use std::io;
@@ -13,6 +14,8 @@ pub enum Trouble {
     Chip(ChipFault),
     /// A part refused a call.
     Part(PartFault),
+    // A console refused a call.
+    Console(ConsoleFault),
     /// There was no memory for a chip's cells.
     Memory,
     /// The output could not be written.
@@ -36,6 +39,14 @@ impl From<PartFault> for Trouble {
 
     fn from(fault: PartFault) -> Trouble {
         Trouble::Part(fault)
+    }
+}
+
+impl From<ConsoleFault> for Trouble {
+    ghost from_gives = { λ f r. r ≡ Console f };
+
+    fn from(fault: ConsoleFault) -> Trouble {
+        Trouble::Console(fault)
     }
 }
 

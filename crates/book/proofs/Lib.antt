@@ -1,0 +1,17 @@
+pub mod Seats
+pub mod Stretches
+pub mod Tallies
+pub mod Showing
+pub mod Ground
+pub mod Laying
+pub mod Lines
+pub mod Changing
+pub mod Effects
+pub mod Peeking
+pub mod Steps
+pub mod Sparing
+pub mod Copying
+pub mod Surveying
+pub mod Seating
+pub mod Opening
+pub mod LawsOfBooks

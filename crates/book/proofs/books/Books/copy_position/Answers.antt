@@ -1,0 +1,43 @@
+use Rattle.std.proofs.Common.{ℕ, Ok, Err, Option, Result, sym, ap, ◌∙◌, subst}
+use Rattle.std.proofs.lemmas.Result.{err_from_is_err_and}
+use Rattle.part.specs.declared.fault.PartFault.{PartFault}
+use Rattle.part.specs.Meaning.{Meaning}
+use Rattle.book.specs.Pages.{page_at}
+use Rattle.book.specs.Reading.{reading}
+use Rattle.book.specs.Burning.{Ran, stopped, page_copied, stops_of}
+use Rattle.book.proofs.Copying.{hold_new, hold_old}
+use Rattle.book.proofs.books.Books.copy_position.Goals as goal
+
+pub returns-then-q-p : goal.returns-then-q-p
+returns-then-q-p g c =
+    let m = g.P.Part.means c.args.part.now in
+    let n = g.P.Part.means c.copy_page.new.part in
+    let to = page_at c.args.self.spare.start c.args.q in
+    subst (λ (o : Result (Option ℕ) PartFault). Ran m (page_copied to o) c.copy_page.result n)
+    (sym (hold_new m c.args.self.current.start c.args.p c.args.q c.args.new c.if-q-p.true))
+    (subst (λ (a : ℕ). Ran m (page_copied a (Ok c.args.new)) c.copy_page.result n) c.address_of-to.ensures c.copy_page.ensures)
+
+pub returns-in_err-page : goal.returns-in_err-page
+returns-in_err-page g c =
+    let m = g.P.Part.means c.args.part.now in
+    let n = g.P.Part.means c.page.new.part in
+    let to = page_at c.args.self.spare.start c.args.q in
+    let f = c.in_err-page.field-0.0 in
+    let p = err_from_is_err_and c.from_residual.result c.from_residual.ensures.1 in
+    let holds = hold_old m c.args.self.current.start c.args.p c.args.q c.args.new (Err f) c.if-q-p.false
+    (sym (c.page.ensures.answer ∙ ap (reading m) c.address_of.ensures) ∙ c.in_err-page.was) in
+    subst (λ (o : Result (Option ℕ) PartFault). Ran m (page_copied to o) c.from_residual.result n) (sym holds)
+    (subst (λ (x : Result (Unit {0}) PartFault). Ran m (page_copied to (stops_of (Err f))) x n) (sym (p.1 ∙ ap Err p.2))
+    (subst (λ (x : Meaning). Ran m (page_copied to (stops_of (Err f))) (Err f) x) (sym c.page.ensures.same) stopped))
+
+pub returns : goal.returns
+returns g c =
+    let m = g.P.Part.means c.args.part.now in
+    let n = g.P.Part.means c.copy_page-2.new.part in
+    let to = page_at c.args.self.spare.start c.args.q in
+    let page = c.in_ok-page.page in
+    let holds = hold_old m c.args.self.current.start c.args.p c.args.q c.args.new (Ok page) c.if-q-p.false
+    (sym (c.page.ensures.answer ∙ ap (reading m) c.address_of.ensures) ∙ c.in_ok-page.was) in
+    subst (λ (o : Result (Option ℕ) PartFault). Ran m (page_copied to o) c.copy_page-2.result n) (sym holds)
+    (subst (λ (x : Meaning). Ran x (page_copied to (Ok page.stops)) c.copy_page-2.result n) c.page.ensures.same
+    (subst (λ (a : ℕ). Ran (g.P.Part.means c.page.new.part) (page_copied a (Ok page.stops)) c.copy_page-2.result n) c.address_of-to.ensures c.copy_page-2.ensures))

@@ -1,0 +1,43 @@
+use Rattle.std.proofs.Common.{◌≡◌, false, Some, sym, ap, ◌∙◌, arith}
+use Rattle.part.specs.declared.answers.Shape.{Shape}
+use Rattle.part.specs.Standings.{stood}
+use Rattle.part.specs.Calls.{stands, block_at}
+use Rattle.book.proofs.Seating.{block_known, fits_as_books, blocks_clear, seats_taken, low_start, stood_stands}
+use Rattle.book.proofs.open.seat.Goals as goal
+
+pub invariant_of-result : goal.invariant_of-result
+invariant_of-result g c =
+    let m = g.P.Part.means c.args.part.now in
+    let l = g.met.P.Part.lawful c.args.part.now in
+    let p = c.in_ok-first.first in
+    let q = c.in_ok-second.second in
+    let x : block_at m c.args.a ≡ Some p =
+    ◌∙◌ {c = Some p} (sym c.block.ensures) c.in_ok-first.ensures.ok_part in
+    let y : block_at m c.args.b ≡ Some q =
+    ◌∙◌ {c = Some q} (sym c.block-2.ensures) c.in_ok-second.ensures.ok_part in
+    let one = block_known m c.args.a p x in
+    let two = block_known m c.args.b q y in
+    let f = fits_as_books m c.args.a c.args.b p q c.is_fit_size.result x y c.is_fit_size.ensures
+    c.if-a-b.false c.if-first-second.false c.if-not-is_fit_size.false in
+    record {
+      few = omega (arith, f.few, one.2);
+      near = omega (arith, low_start m c.args.a l one.0, one.1);
+      close = omega (arith, low_start m c.args.b l two.0, two.1);
+      distinct = blocks_clear m c.args.a c.args.b p q c.is_fit_size.result x y c.is_fit_size.ensures
+          c.if-a-b.false c.if-first-second.false c.if-not-is_fit_size.false;
+    }
+
+pub returns : goal.returns
+returns g c =
+    let m = g.P.Part.means c.args.part.now in
+    let p = c.in_ok-first.first in
+    let q = c.in_ok-second.second in
+    let x : block_at m c.args.a ≡ Some p =
+    ◌∙◌ {c = Some p} (sym c.block.ensures) c.in_ok-first.ensures.ok_part in
+    let y : block_at m c.args.b ≡ Some q =
+    ◌∙◌ {c = Some q} (sym c.block-2.ensures) c.in_ok-second.ensures.ok_part in
+    let s : stands m.erasure ≡ false =
+    sym (stood_stands m.erasure) ∙ ap (λ (x : Shape). stood x.standing) (sym c.shape.ensures) ∙ sym c.stands.ensures ∙ c.if-stands.false in
+    seats_taken m c.args.a c.args.b p q c.is_fit_size.result x y c.is_fit_size.ensures
+    c.if-a-b.false c.if-first-second.false c.if-not-is_fit_size.false
+    (sym c.guarded.ensures ∙ c.if-guarded.false) (sym c.guarded-2.ensures ∙ c.if-guarded-2.false) s

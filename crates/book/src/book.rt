@@ -1,0 +1,30 @@
+ghost use Rattle.std.specs.Prelude.{◌≡◌, ◌≤◌};
+ghost use Rattle.book.specs.Pages.{page_at};
+ghost use Rattle.book.specs.Pairs.{book_size};
+
+use crate::page::PAGE;
+
+/// A book: a block of a part that holds registrations.
+#[derive(Clone, Copy, Debug, PartialEq, Eq)]
+pub struct Book {
+    pub block: u32,
+    /// The address at which the block begins.
+    pub start: u32,
+}
+
+impl Book {
+    // The address of a position's page.
+    pub(crate) fn address_of(self, position: u8) -> u32
+        requires { self.start ≤ 16777216 }
+        ensures { result ≡ page_at self.start position }
+    {
+        self.start + PAGE * u32::from(position)
+    }
+}
+
+// How many bytes a book of so many positions has: a page for its head, and one for each.
+pub(crate) fn book_size(positions: u8) -> u32
+    ensures { result ≡ book_size positions }
+{
+    PAGE * (u32::from(positions) + 1)
+}

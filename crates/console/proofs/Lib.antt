@@ -1,0 +1,4 @@
+pub mod Ending
+pub mod Calling
+pub mod Seeking
+pub mod Ways

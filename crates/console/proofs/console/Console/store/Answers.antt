@@ -1,0 +1,25 @@
+use Rattle.std.proofs.Common.{ℕ, Err, Result, sym, ap, ◌∙◌, subst}
+use Rattle.std.proofs.lemmas.Result.{err_from_is_err_and}
+use Rattle.console.specs.declared.fault.ConsoleFault.{ConsoleFault}
+use Rattle.console.specs.Desks.{desk, between}
+use Rattle.console.specs.Faults.{placed}
+use Rattle.console.specs.Storing.{Stores}
+use Rattle.console.proofs.Calling.{stores_refused, stores_done}
+use Rattle.console.proofs.console.Console.store.Goals as goal
+
+pub returns-in_err-spot : goal.returns-in_err-spot
+returns-in_err-spot g c =
+    let m = g.P.Part.means c.args.self.now.part in
+    let o = c.args.self.now.books in
+    let p = err_from_is_err_and c.from_residual.result c.from_residual.ensures.1 in
+    subst (λ (x : Result ℕ ConsoleFault). Stores (desk m o) c.args.position c.args.new x (desk m o)) (sym (p.1 ∙ ap Err p.2))
+    (stores_refused m o c.args.position c.args.new c.in_err-spot.field-0.0 c.in_err-spot.ensures)
+
+pub returns : goal.returns
+returns g c =
+    let m = g.P.Part.means c.args.self.now.part in
+    let n = g.P.Part.means c.store-stored.new.part in
+    stores_done m n c.args.self.now.books c.args.position c.since-us.result c.args.new c.in_ok-spot.spot
+    c.store-stored.new.books c.store-stored.result c.at.result c.in_ok-spot.ensures c.store-stored.ensures
+    (c.since-us.ensures ∙ ap (λ (x : ℕ). between x n.clock) c.clock-before.ensures)
+    (c.at.ensures ∙ ap (placed c.args.position) c.store_answer.ensures)

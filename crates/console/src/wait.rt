@@ -1,0 +1,59 @@
+// Waiting.
+ghost use Rattle.std.specs.Prelude.{◌≡◌};
+ghost use Rattle.part.specs.Calls.{progress, passed};
+ghost use Rattle.console.specs.Desks.{desk};
+ghost use Rattle.console.specs.Waiting.{let_end, ends_worn, is_worn};
+ghost use Rattle.console.specs.Calls.{Waits};
+
+use crate::console::Console;
+use crate::fault::ConsoleFault;
+use crate::raise::refused;
+use part::{Part, PartFault, Progress, Standing};
+use refusal::Cause;
+
+// The microseconds of one pass in which an erasure is waited for.
+const PASS: u32 = 1_000;
+
+// Whether a pass ended an erasure as worn.
+fn ended_worn(progress: Progress) -> bool
+    ensures { result ≡ is_worn progress }
+{
+    matches!(progress, Progress::Worn)
+}
+
+// One pass in which an erasure is waited for. It is short enough never to be refused.
+fn pass_once<P: Part>(part: &mut P) -> Progress
+    ensures answer { result ≡ progress (P.Part.means part.old) 1000 (P.Part.means part.old).erasure }
+    ensures passed { P.Part.means part.new ≡ passed (P.Part.means part.old) 1000 }
+{
+    part.pass(PASS).unwrap()
+}
+
+// Lets a running erasure end, and answers whether it ended as worn.
+pub(crate) fn let_end<P: Part>(part: &mut P) -> bool
+    ensures answer { result ≡ ends_worn (P.Part.means part.old) }
+    ensures ended { P.Part.means part.new ≡ let_end (P.Part.means part.old) }
+{
+    let Standing::Running(_) = part.shape().standing else {
+        return false;
+    };
+    loop {
+        match pass_once(part) {
+            Progress::Running => {}
+            ended => return ended_worn(ended),
+        }
+    }
+}
+
+impl<P: Part + Drop> Console<P> {
+    /// Lets n microseconds pass, and reports them. A book whose erasure ends as worn in this time is spoilt.
+    pub fn wait(&mut self, us: u32) -> Result<u32, ConsoleFault>
+        ensures { Waits (desk (P.Part.means self.old.part) self.old.books) us result (desk (P.Part.means self.new.part) self.new.books) }
+    {
+        let books = self.books.ok_or(refused(Cause::OutOfTurn, 0))?;
+        let before = self.part.clock();
+        let progress = self.part.pass(us)?;
+        self.books = Some(books.spoilt_if(ended_worn(progress)));
+        Ok(self.since(before))
+    }
+}

@@ -1,0 +1,9 @@
+pub mod Tables
+pub mod Keeping
+pub mod Playing
+pub mod Storing
+pub mod Listing
+pub mod Looks
+pub mod Waits
+pub mod Promised
+pub mod Worked

@@ -1,0 +1,210 @@
+-- What recall and next answer on a console that keeps its books, and that they leave it as it was.
+use Rattle.std.proofs.Common.{◌≡◌, ℕ, zero, suc, ◌+◌, ◌-◌, ◌<◌, ◌≤◌, Bool, true, false, cond, leb, Some, None, Ok, Err, Option, Result, sym, refl, ap, ◌∙◌, subst, ap₂, arith}
+use Rattle.std.specs.Prelude.{is_ok}
+use Rattle.std.proofs.lemmas.Bool.{and_parts, ne_eqb, leb-true, cond-true, cond-false}
+use Rattle.refusal.specs.declared.Cause.TheVariants.{PositionOutside}
+use Rattle.part.specs.Meaning.{Erasure, Meaning, with_erasure, ticked, Lawful}
+use Rattle.part.specs.Calls.{Took, hides, can_hold, turned, HeldBy, Held, gone_on}
+use Rattle.part.proofs.Clocks.{ticked_none}
+use Rattle.book.specs.Pages.{page_at, page_of}
+use Rattle.book.specs.Reading.{reading}
+use Rattle.book.specs.Burning.{stops_of}
+use Rattle.book.specs.Pairs.{Pair}
+use Rattle.book.proofs.Seats.{Seated}
+use Rattle.book.proofs.Effects.{reads}
+use Rattle.console.specs.declared.fault.ConsoleFault.{ConsoleFault}
+use Rattle.console.specs.declared.answers.Recalled.{Recalled}
+use Rattle.console.specs.declared.answers.Found.{Found}
+use Rattle.console.specs.declared.answers.Said.{Said}
+use Rattle.console.specs.declared.answers.Said.TheVariants.{Shows, Finds}
+use Rattle.console.specs.declared.answers.Answer.{Answer}
+use Rattle.console.specs.declared.call.Call.{Call}
+use Rattle.console.specs.declared.call.Call.TheVariants.{Set, Clear, Recall, Next, Wait}
+use Rattle.console.specs.Desks.{Desk, opened, between, moved}
+use Rattle.console.specs.Faults.{no_place}
+use Rattle.console.specs.Looking.{searched, filled_at, or_else, recalled, found, RecallsIf, Recalls, NextsIf, Nexts}
+use Rattle.console.specs.Calls.{shows, finds, Replies}
+use Rattle.rehearsal.specs.Promises.{OnlyLooks, Reports}
+use Rattle.rehearsal.proofs.Tables.{Table, look, after, filled, or_then, nearest, is_position, tells}
+use Rattle.rehearsal.proofs.Keeping.{Rest, ready, erasing, spoilt, Keeps, Goes, keeps_ticked}
+
+-- What a look at a part finds: each page of the current book as it stands, in at most 15 microseconds.
+record Glimpse (m : Meaning) (c : Pair) (held n : Meaning) : Type 0 where
+  time : ℕ
+  short : time ≤ 15
+  is : n ≡ ticked m time
+  page : (p : ℕ) → p ≤ c.positions → reading held (page_at c.current.start p) ≡ Ok (page_of m.cells (page_at c.current.start p))
+
+-- The books stay where they are, whatever is erased.
+seated_held : (m : Meaning) (c : Pair) (o : Option Erasure) (time : ℕ) → Seated m c → Seated (ticked (with_erasure m o) time) c
+seated_held m c o time s = record {
+  whole = s.whole;
+  current_in = s.current_in;
+  spare_in = s.spare_in;
+  current_start = s.current_start;
+  spare_start = s.spare_start;
+  current_width = s.current_width;
+  spare_width = s.spare_width;
+  distinct = s.distinct;
+  current_open = s.current_open;
+  spare_open = s.spare_open;
+}
+
+-- Where no erasure stands there is nothing to hold.
+glimpse_idle : (m : Meaning) (c : Pair) (held n : Meaning) → Lawful m → Seated m c → m.erasure ≡ None → Held m held → n ≡ gone_on held
+    → Glimpse m c held n
+glimpse_idle m c held n l s i h g =
+    let same : held ≡ m = subst (λ (o : Option Erasure). HeldBy m (can_hold o) held) i h in
+    let on : gone_on m ≡ m = ap (λ (o : Option Erasure). with_erasure m (turned true o)) i ∙ ap (with_erasure m) (sym i) in
+    record {
+      time = 0;
+      short = omega arith;
+      is = g ∙ ap gone_on same ∙ on ∙ sym (ticked_none m l.clock);
+      page = λ p j.
+          ap (λ (x : Meaning). reading x (page_at c.current.start p)) same
+          ∙ reads m c s (ap (λ (o : Option Erasure). hides o c.current.block) i) p j;
+    }
+
+-- A running erasure of the other book is held, and hides only that book's block.
+glimpse_held : (m : Meaning) (c : Pair) (held n : Meaning) (left : ℕ) → Seated m c
+    → m.erasure ≡ Some (record { block = c.spare.block; left = left; running = true }) → Held m held → n ≡ gone_on held → Glimpse m c held n
+glimpse_held m c held n left s i h g =
+    let x : Took 0 15 (with_erasure m (turned false m.erasure)) held = subst (λ (o : Option Erasure). HeldBy m (can_hold o) held) i h in
+    let off : hides (turned false m.erasure) c.current.block ≡ false =
+    ap (λ (o : Option Erasure). hides (turned false o) c.current.block) i ∙ ne_eqb c.spare.block c.current.block (λ e. s.distinct (sym e)) in
+    record {
+      time = x.time;
+      short = x.high;
+      is =
+          g ∙ ap gone_on x.is
+          ∙ ap (λ (o : Option Erasure). ticked (with_erasure m (turned true (turned false o))) x.time) i
+          ∙ ap (λ (o : Option Erasure). ticked (with_erasure m o) x.time) (sym i);
+      page = λ p j.
+          ap (λ (y : Meaning). reading y (page_at c.current.start p)) x.is
+          ∙ reads (ticked (with_erasure m (turned false m.erasure)) x.time) c (seated_held m c (turned false m.erasure) x.time s) off p j;
+    }
+
+-- A look, whatever state the other book is in.
+glimpse : (m : Meaning) (c : Pair) (held n : Meaning) → Lawful m → Seated m c → Rest m c → Held m held → n ≡ gone_on held → Glimpse m c held n
+glimpse m c held n l s (ready i f t) h g = glimpse_idle m c held n l s i h g
+glimpse m c held n l s (erasing left i f) h g = glimpse_held m c held n left s i h g
+glimpse m c held n l s (spoilt i f w) h g = glimpse_idle m c held n l s i h g
+
+-- A look leaves the table as it is.
+after_look : (call : Call) → OnlyLooks call → (accepted : Bool) (f : Table) (p : ℕ) → after call accepted f p ≡ f p
+after_look (Set q stops) x t f p = absurd x
+after_look (Clear q) x t f p = absurd x
+after_look (Recall q) x true f p = refl
+after_look (Recall q) x false f p = refl
+after_look (Next q) x true f p = refl
+after_look (Next q) x false f p = refl
+after_look (Wait us) x t f p = absurd x
+
+-- Tables that are the same at each position say the same.
+pub keeps_table : (o : Meaning) (a b : ℕ) (f g : Table) (m : Meaning) (c : Pair) → ((p : ℕ) → g p ≡ f p) → Keeps o a b f m c → Keeps o a b g m c
+keeps_table o a b f g m c s k = record {
+  seated = k.seated;
+  blocks = k.blocks;
+  sizes = k.sizes;
+  guards = k.guards;
+  wears = k.wears;
+  positions = k.positions;
+  head = k.head;
+  readable = k.readable;
+  shows = λ p l h. k.shows p l h ∙ sym (s p);
+  rest = k.rest;
+}
+
+-- A look that took that time, and answered what the table tells.
+module _ (o : Meaning) (a b : ℕ) (f : Table) (m : Meaning) (c : Pair) (lawful : Lawful m) (k : Keeps o a b f m c) where
+  looked : (call : Call) (r : Result Answer ConsoleFault) (e : Desk) (time : ℕ) → OnlyLooks call → time ≤ 15 → e ≡ opened (ticked m time) c
+      → look r ≡ tells c.positions f call → Reports time r → Goes o a b f m c call r e
+  looked call r e time x h i t u =
+      let n : Meaning = ticked m time in
+      let clock : m.clock < 4294967296 = lawful.clock in
+      let passed : between m.clock n.clock ≡ time = omega arith in
+      subst (λ (d : Desk). Goes o a b f m c call r d) (sym i)
+      (record {
+        books = c;
+        leaves = refl;
+        keeps = keeps_table o a b f (after call (is_ok r) f) n c (after_look call x (is_ok r) f) (keeps_ticked o a b f m c time k);
+        looks = λ _. t;
+        sure = λ _ _. t;
+        prompt = λ _. (subst (λ (y : ℕ). y ≤ 15) (sym passed) h, subst (λ (y : ℕ). Reports y r) (sym passed) u);
+      })
+
+  -- a refused look
+  left_alone : (call : Call) (r : Result Answer ConsoleFault) (e : Desk) (fault : ConsoleFault) → OnlyLooks call → e ≡ opened m c
+      → r ≡ Err fault → Err fault ≡ tells c.positions f call → Goes o a b f m c call r e
+  left_alone call r e fault x i t u =
+      looked call r e 0 x (omega arith) (i ∙ ap (λ (n : Meaning). opened n c) (sym (ticked_none m lawful.clock)))
+      (ap look t ∙ u) (subst (Reports 0) (sym t) tt)
+
+  -- an accepted look
+  accepted : (call : Call) (r : Result Answer ConsoleFault) (e : Desk) (said : Said) (time : ℕ) (n : Meaning) → OnlyLooks call → time ≤ 15
+      → n ≡ ticked m time → e ≡ opened n c → r ≡ Ok (record { said = said; us = moved m n }) → Ok said ≡ tells c.positions f call
+      → Goes o a b f m c call r e
+  accepted call r e said time n x h j i t u =
+      let clock : m.clock < 4294967296 = lawful.clock in
+      let passed : between m.clock (ticked m time).clock ≡ time = omega arith in
+      looked call r e time x h (i ∙ ap (λ (y : Meaning). opened y c) j) (ap look t ∙ u)
+      (subst (Reports time) (sym t) (ap (moved m) j ∙ passed))
+
+  -- a recall, by whether there is such a position
+  recall_by : (p : ℕ) (q : Result Recalled ConsoleFault) (r : Result Answer ConsoleFault) (e : Desk) (t : Bool) → is_position c.positions p ≡ t
+      → r ≡ shows q → RecallsIf (cond t None (Some PositionOutside)) (opened m c) (Some c) p q e → Goes o a b f m c (Recall p) r e
+  recall_by p q r e true t i x =
+      let l = and_parts (leb 1 p) (leb p c.positions) t in
+      let low : 1 ≤ p = leb-true 1 p l.0 in
+      let high : p ≤ c.positions = leb-true p c.positions l.1 in
+      let g = glimpse m c x.looks.held x.part lawful k.seated k.rest x.looks.holds x.looks.goes in
+      let seen : x.seen ≡ Ok (f p) = x.looks.sees ∙ ap stops_of (g.page p high) ∙ ap Ok (k.shows p low high) in
+      accepted (Recall p) r e (Shows (f p)) g.time x.part tt g.short g.is x.leaves
+      (i ∙ ap shows (x.says ∙ ap (recalled (moved m x.part) p) seen)) (sym (cond-true (is_position c.positions p) _ _ t))
+  recall_by p q r e false t i x =
+      left_alone (Recall p) r e (no_place PositionOutside p) tt x.1 (i ∙ ap shows x.0) (sym (cond-false (is_position c.positions p) _ _ t))
+
+  -- the search on the part goes as on the table
+  searched_all : (held : Meaning)
+      → ((p : ℕ) → p ≤ c.positions → reading held (page_at c.current.start p) ≡ Ok (page_of m.cells (page_at c.current.start p)))
+      → (p i : ℕ) → p + i ≤ c.positions → searched held c.current.start p i ≡ Ok (nearest f p i)
+  unfolding searched nearest
+  searched_all held page p zero h = refl
+  searched_all held page p (suc i) h =
+      let here : stops_of (reading held (page_at c.current.start (p + suc i))) ≡ Ok (f (p + suc i)) =
+      ap stops_of (page (p + suc i) h) ∙ ap Ok (k.shows (p + suc i) (omega arith) h) in
+      ap₂ or_else (searched_all held page p i (omega arith)) (ap (filled_at (p + suc i)) here ∙ one (p + suc i) (f (p + suc i)))
+      ∙ both (nearest f p i) (filled (f (p + suc i)) (p + suc i))
+    where
+      one : (q : ℕ) (v : Option ℕ) → filled_at q (Ok v) ≡ Ok (filled v q)
+      one q None = refl
+      one q (Some stops) = refl
+
+      both : (x y : Option ℕ) → or_else (Ok x) (Ok y) ≡ Ok (or_then x y)
+      both None y = refl
+      both (Some q) y = refl
+
+  -- a next, by whether there is such a position
+  next_by : (p : ℕ) (q : Result Found ConsoleFault) (r : Result Answer ConsoleFault) (e : Desk) (t : Bool) → leb p c.positions ≡ t
+      → r ≡ finds q → NextsIf (cond t None (Some PositionOutside)) (opened m c) (Some c) p q e → Goes o a b f m c (Next p) r e
+  next_by p q r e true t i x =
+      let high : p ≤ c.positions = leb-true p c.positions t in
+      let g = glimpse m c x.looks.held x.part lawful k.seated k.rest x.looks.holds x.looks.goes in
+      let seen : x.seen ≡ Ok (nearest f p (c.positions - p)) =
+      x.looks.sees ∙ searched_all x.looks.held g.page p (c.positions - p) (omega arith) in
+      accepted (Next p) r e (Finds (nearest f p (c.positions - p))) g.time x.part tt g.short g.is x.leaves
+      (i ∙ ap finds (x.says ∙ ap (found (moved m x.part) p) seen)) (sym (cond-true (leb p c.positions) _ _ t))
+  next_by p q r e false t i x =
+      left_alone (Next p) r e (no_place PositionOutside p) tt x.1 (i ∙ ap finds x.0) (sym (cond-false (leb p c.positions) _ _ t))
+
+-- A recall, accepted or refused.
+pub recall_goes : (o : Meaning) (a b : ℕ) (f : Table) (m : Meaning) (c : Pair) (p : ℕ) (r : Result Answer ConsoleFault) (e : Desk)
+    → Lawful m → Keeps o a b f m c → Replies (opened m c) (Recall p) r e → Goes o a b f m c (Recall p) r e
+unfolding Recalls
+recall_goes o a b f m c p r e l k x = recall_by o a b f m c l k p x.answer r e (is_position c.positions p) refl x.says x.does
+
+-- A next, accepted or refused.
+pub next_goes : (o : Meaning) (a b : ℕ) (f : Table) (m : Meaning) (c : Pair) (p : ℕ) (r : Result Answer ConsoleFault) (e : Desk)
+    → Lawful m → Keeps o a b f m c → Replies (opened m c) (Next p) r e → Goes o a b f m c (Next p) r e
+unfolding Nexts
+next_goes o a b f m c p r e l k x = next_by o a b f m c l k p x.answer r e (leb p c.positions) refl x.says x.does

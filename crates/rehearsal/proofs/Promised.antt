@@ -1,0 +1,190 @@
+-- The promise, from what each single call does.
+use Rattle.std.proofs.Common.{◌≡◌, ℕ, ◌<◌, ◌≤◌, true, false, not, List, None, Ok, Err, Option, Result, sym, refl, ap, ◌∙◌, subst, arith}
+use Rattle.std.specs.Prelude.{is_ok}
+use Rattle.std.proofs.lemmas.Bool.{both_ways, and_parts, not-true}
+use Rattle.part.specs.declared.fault.PartFault.{PartFault}
+use Rattle.part.specs.Meaning.{Meaning, worn, Lawful}
+use Rattle.part.specs.Calls.{stands}
+use Rattle.book.specs.Pages.{page_at, shown, blank}
+use Rattle.book.specs.Pairs.{Pair, book_size}
+use Rattle.book.specs.Finding.{width, positions_of, Opened}
+use Rattle.book.proofs.Opening.{OpenBooks, opened_books, opened_again}
+use Rattle.console.specs.declared.fault.ConsoleFault.{ConsoleFault}
+use Rattle.console.specs.declared.answers.Answer.{Answer}
+use Rattle.console.specs.declared.call.Call.{Call}
+use Rattle.console.specs.declared.call.Call.TheVariants.{Set, Clear, Recall, Next, Wait}
+use Rattle.console.specs.Desks.{Desk, opened, moved, between, is_quiet}
+use Rattle.console.specs.Calls.{OpensClosed, OpensOn, Opens, Replies, desk_after, open_report}
+use Rattle.rehearsal.specs.declared.line.Line.{Line}
+use Rattle.rehearsal.specs.declared.account.Seats.{Seats}
+use Rattle.rehearsal.specs.declared.account.Opening.{Opening}
+use Rattle.rehearsal.specs.declared.account.Rehearsal.{Rehearsal}
+use Rattle.rehearsal.specs.Accounts.{Played, none, more, Performed}
+use Rattle.rehearsal.specs.Promises.{Reports, Kept, FromBlank, positions, Promise, SameAgain}
+use Rattle.rehearsal.proofs.Tables.{Table, nothing, after, tells, Looked, Told, Sure, end, then}
+use Rattle.rehearsal.proofs.Keeping.{Rest, ready, erasing, spoilt, Keeps, Goes}
+use Rattle.rehearsal.proofs.Storing.{set_goes, clear_goes}
+use Rattle.rehearsal.proofs.Looks.{recall_goes, next_goes}
+use Rattle.rehearsal.proofs.Waits.{keeps_ended, wait_goes}
+use Rattle.rehearsal.proofs.Listing.{kept, accepts, alike}
+
+-- Any of the five calls.
+goes : (o : Meaning) (a b : ℕ) (f : Table) (m : Meaning) (c : Pair) (call : Call) (r : Result Answer ConsoleFault) (e : Desk) → Lawful m
+    → Keeps o a b f m c → Replies (opened m c) call r e → Goes o a b f m c call r e
+goes o a b f m c (Set p stops) r e l k x = let d = keeps_ended o a b f m c l k in set_goes o a b f m c k d.keeps d.idle p stops r e x
+goes o a b f m c (Clear p) r e l k x = let d = keeps_ended o a b f m c l k in clear_goes o a b f m c k d.keeps d.idle p r e x
+goes o a b f m c (Recall p) r e l k x = recall_goes o a b f m c p r e l k x
+goes o a b f m c (Next p) r e l k x = next_goes o a b f m c p r e l k x
+goes o a b f m c (Wait us) r e l k x = wait_goes o a b f m c us r e l k x
+
+-- What holds after a list of calls, and what its account tells.
+record After (o : Meaning) (a b : ℕ) (f : Table) (calls : List Call) (log : List Line) (e : Desk) : Type 0 where
+  table : Table
+  told : Told (positions_of (width o a)) f calls log table
+  sure : worn o a ≡ false → worn o b ≡ false → Sure (positions_of (width o a)) f calls log
+  books : Pair
+  leaves : e ≡ opened e.part books
+  keeps : Keeps o a b table e.part books
+  lawful : Lawful e.part
+
+played : (o : Meaning) (a b : ℕ) (f : Table) (d : Desk) (c : Pair) (calls : List Call) (log : List Line) (e : Desk) → Lawful d.part
+    → d ≡ opened d.part c → Keeps o a b f d.part c → Played d calls log e → After o a b f calls log e
+played o a b f d c calls log e l i k (none _) = record {
+  table = f;
+  told = end f;
+  sure = λ _ _. end f;
+  books = c;
+  leaves = i;
+  keeps = k;
+  lawful = l;
+}
+played o a b f d c calls log e l i k (more {k = h} {c = call} {cs = cs} {l = line} {ls = ls} p rest) =
+    let g = goes o a b f d.part c call line.reply h l k (subst (λ (x : Desk). Replies x call line.reply h) i p.replies) in
+    let n : ℕ = positions_of (width o a) in
+    let next = played o a b (after call (is_ok line.reply) f) h g.books cs ls e p.lawful g.leaves g.keeps rest in
+    let looked : Looked n f call line = record {
+      told = λ only. g.looks only ∙ ap (λ (x : ℕ). tells x f call) k.positions;
+      prompt = λ only. subst (λ (x : ℕ). (between x line.after ≤ 15) × Reports (between x line.after) line.reply) (sym p.before)
+          (subst (λ (x : ℕ). (between d.part.clock x ≤ 15) × Reports (between d.part.clock x) line.reply) (sym p.after) (g.prompt only));
+    } in
+    record {
+      table = next.table;
+      told = then looked next.told;
+      sure = λ s t. then (g.sure s t ∙ ap (λ (x : ℕ). tells x f call) k.positions) (next.sure s t);
+      books = next.books;
+      leaves = next.leaves;
+      keeps = next.keeps;
+      lawful = next.lawful;
+    }
+
+-- what an opening that was accepted has taken
+record Took (m : Meaning) (a b : ℕ) (e : Desk) : Type 0 where
+  books : Pair
+  leaves : e ≡ opened e.part books
+  opens : OpenBooks m a b books e.part
+
+took : (m : Meaning) (a b : ℕ) (r : Result ℕ ConsoleFault) (e : Desk) → Lawful m → is_ok r ≡ true → OpensClosed m a b r e → Took m a b e
+took m a b r e l t x = by x.taken refl
+  where
+    by : (q : Result Pair PartFault) → x.taken ≡ q → Took m a b e
+    by (Ok c) d =
+        let y : Opened m a b (Ok c) x.part = subst (λ (q : Result Pair PartFault). Opened m a b q x.part) d x.opens in
+        let i : e ≡ opened x.part c = x.leaves ∙ ap (desk_after x.part) d in
+        let j : e.part ≡ x.part = ap (λ (z : Desk). z.part) i in
+        record {
+          books = c;
+          leaves = i ∙ ap (λ (z : Meaning). opened z c) (sym j);
+          opens = subst (λ (z : Meaning). OpenBooks m a b c z) (sym j) (opened_books m a b c x.part l y);
+        }
+    by (Err f) d =
+        let y : is_ok r ≡ false = ap (λ (z : Result ℕ ConsoleFault). is_ok z) (x.says ∙ ap (open_report m x.part) d) in
+        absurd (both_ways (is_ok r) y t)
+
+-- the table with which it begins
+abbrev first_table : Meaning → Pair → Table
+first_table m c p = shown m.cells (page_at c.current.start p)
+
+keeps_opened : (m : Meaning) (a b : ℕ) (c : Pair) (n : Meaning) (f : Table) → OpenBooks m a b c n
+    → ((p : ℕ) → 1 ≤ p → p ≤ c.positions → shown n.cells (page_at c.current.start p) ≡ f p) → Keeps m a b f n c
+keeps_opened m a b c n f x s = record {
+  seated = x.seated;
+  blocks = x.blocks;
+  sizes = x.sizes;
+  guards = x.guards;
+  wears = x.wears;
+  positions = x.positions;
+  head = x.head;
+  readable = x.readable;
+  shows = s;
+  rest = x.rest;
+}
+
+-- One console that was opened on two blank books.
+blank_run : (d : Desk) (on : Seats) (calls : List Call) (o : Opening) (log : List Line) (e : Desk) → Lawful d.part → Performed d on calls o log e
+    → FromBlank d on o → After d.part on.first on.second nothing calls log e
+unfolding Opens
+blank_run d on calls o log e l p z =
+    let x : OpensClosed d.part on.first on.second o.reply p.start =
+    subst (λ (w : Option Pair). OpensOn w d on.first on.second o.reply p.start) z.closed p.opens.replies in
+    let t = took d.part on.first on.second o.reply p.start l z.accepted x in
+    played d.part on.first on.second nothing p.start t.books calls log e p.opens.lawful t.leaves
+    (keeps_opened d.part on.first on.second t.books p.start.part nothing t.opens (t.opens.empty (z.first, z.second))) p.played
+
+keeps_promise : (d : Desk) (on : Seats) (calls : List Call) (o : Opening) (log : List Line) (e : Desk) → Lawful d.part → Performed d on calls o log e
+    → FromBlank d on o → Kept calls log (positions d.part on) e
+keeps_promise d on calls o log e l p z =
+    let x = blank_run d on calls o log e l p z in
+    kept (positions d.part on) calls log x.table e x.told
+    (λ c r k only y.
+    let g = goes d.part on.first on.second x.table e.part x.books c r k x.lawful x.keeps (subst (λ (w : Desk). Replies w c r k) x.leaves y) in
+    g.looks only ∙ ap (λ (n : ℕ). tells n x.table c) x.keeps.positions)
+
+pub promised : (calls : List Call) (quick slow : Seats) (d e k f : Desk) (r : Rehearsal) → Lawful d.part → Lawful k.part
+    → Performed d quick calls r.quick.opening r.quick.lines.items e → Performed k slow calls r.slow.opening r.slow.lines.items f
+    → Promise calls quick slow d e k f r
+promised calls quick slow d e k f r l m p q = record {
+  kept_quick = λ z. keeps_promise d quick calls r.quick.opening r.quick.lines.items e l p z;
+  kept_slow = λ z. keeps_promise k slow calls r.slow.opening r.slow.lines.items f m q z;
+  accepts_quick = λ z s. accepts ((blank_run d quick calls r.quick.opening r.quick.lines.items e l p z).sure s.0 s.1);
+  accepts_slow = λ z s. accepts ((blank_run k slow calls r.slow.opening r.slow.lines.items f m q z).sure s.0 s.1);
+  alike = λ y z w s t.
+      let i : positions k.part slow ≡ positions d.part quick = ap positions_of (sym w) in
+      alike (positions d.part quick) nothing calls r.quick.lines.items r.slow.lines.items
+      ((blank_run d quick calls r.quick.opening r.quick.lines.items e l p y).sure s.0 s.1)
+      (subst (λ (n : ℕ). Sure n nothing calls r.slow.lines.items) i
+      ((blank_run k slow calls r.slow.opening r.slow.lines.items f m q z).sure t.0 t.1));
+}
+
+-- Opening again.
+quiet_ready : (e : Desk) (c : Pair) → e ≡ opened e.part c → is_quiet e ≡ true → Rest e.part c
+    → (e.part.erasure ≡ None) × (c.spoilt ≡ false) × (blank e.part.cells c.spare.start (book_size c.positions) ≡ true)
+quiet_ready e c i q rest = by rest
+  where
+    tests : (stands e.part.erasure ≡ false) × (c.spoilt ≡ false)
+    tests =
+        let p = and_parts (not (stands e.part.erasure)) (not c.spoilt) (subst (λ (d : Desk). is_quiet d ≡ true) i q) in
+        (not-true (stands e.part.erasure) p.0, not-true c.spoilt p.1)
+
+    by : Rest e.part c → (e.part.erasure ≡ None) × (c.spoilt ≡ false) × (blank e.part.cells c.spare.start (book_size c.positions) ≡ true)
+    by (ready j s t) = (j, s, t)
+    by (erasing left j s) = absurd (both_ways (stands e.part.erasure) tests.0 (ap stands j))
+    by (spoilt j s w) = absurd (both_ways c.spoilt tests.1 s)
+
+no_time : (m : Meaning) → Lawful m → moved m m ≡ 0
+no_time m l = let c : m.clock < 4294967296 = l.clock in omega arith
+
+pub same_again : SameAgain
+unfolding Opens
+same_again m a b us start e calls log l o g p q r again x =
+    let t = took m a b (Ok us) start l refl o in
+    let z = played m a b (first_table start.part t.books) start t.books calls log e g t.leaves
+    (keeps_opened m a b t.books start.part (first_table start.part t.books) t.opens (λ _ _ _. refl)) p in
+    let k = z.keeps in
+    let w = quiet_ready e z.books z.leaves q k.rest in
+    let v = opened_again m e.part a b z.books x.taken x.part t.opens.free k.sizes k.guards w.0 k.seated k.positions w.1 k.head k.readable w.2
+    k.blocks x.opens in
+    let says : r ≡ Ok (moved e.part x.part) = x.says ∙ ap (open_report e.part x.part) v.0 in
+    let time : moved e.part x.part ≡ 0 = ap (moved e.part) v.1 ∙ no_time e.part z.lawful in (
+      says ∙ ap (λ (n : ℕ). Ok n) time,
+      x.leaves ∙ ap (desk_after x.part) v.0 ∙ ap (λ (n : Meaning). opened n z.books) v.1 ∙ sym z.leaves,
+    )

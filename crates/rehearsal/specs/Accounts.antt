@@ -1,0 +1,60 @@
+-- A list of calls on a console, and the account of it: a line for each call.
+use Rattle.std.specs.Prelude.{◌≡◌, ℕ, ◌<◌, true, List, [], ◌∷◌, is_ok, Some, None, Option}
+use Rattle.std.specs.List.{slice_get}
+use Rattle.part.specs.Meaning.{Lawful}
+use Rattle.console.specs.declared.call.Call.{Call}
+use Rattle.console.specs.declared.call.Call.TheVariants.{Set, Clear}
+use Rattle.console.specs.Desks.{Desk}
+use Rattle.console.specs.Calls.{Opens, Replies}
+use Rattle.rehearsal.specs.declared.line.Line.{Line}
+use Rattle.rehearsal.specs.declared.account.Seats.{Seats}
+use Rattle.rehearsal.specs.declared.account.Opening.{Opening}
+
+-- one call: the clock of the part before and after it, and the answer
+pub record Plays (d : Desk) (c : Call) (l : Line) (e : Desk) : Type 0 where
+  pub before : l.before ≡ d.part.clock
+  pub after : l.after ≡ e.part.clock
+  pub replies : Replies d c l.reply e
+  -- what holds of every part holds of this one after the call
+  pub lawful : Lawful e.part
+
+-- The calls were made on d in their order, with this account, and left e.
+pub data Played : Desk → List Call → List Line → Desk → Type 0 where
+  none : (d : Desk) → Played d [] [] d
+  more : {d k e : Desk} {c : Call} {cs : List Call} {l : Line} {ls : List Line} → Plays d c l k → Played k cs ls e → Played d (c ∷ cs) (l ∷ ls) e
+
+-- how a console was opened: the clock of the part before and after it, and the answer
+pub record OpensOnce (d : Desk) (on : Seats) (o : Opening) (e : Desk) : Type 0 where
+  pub before : o.before ≡ d.part.clock
+  pub after : o.after ≡ e.part.clock
+  pub replies : Opens d on.first on.second o.reply e
+  pub lawful : Lawful e.part
+
+-- A console was opened, accepted or refused, and then these calls were made.
+pub record Performed (d : Desk) (on : Seats) (calls : List Call) (o : Opening) (log : List Line) (e : Desk) : Type 0 where
+  pub start : Desk
+  pub opens : OpensOnce d on o start
+  pub played : Played start calls log e
+
+-- call i of the list is c, and was accepted
+pub record Accepted (calls : List Call) (log : List Line) (i : ℕ) (c : Call) : Type 0 where
+  pub call : slice_get calls i ≡ Some c
+  pub line : Line
+  pub wrote : slice_get log i ≡ Some line
+  pub well : is_ok line.reply ≡ true
+
+-- the last set that was accepted at p is one to these stops, and no clear was accepted there later
+pub record LastSet (calls : List Call) (log : List Line) (p stops : ℕ) : Type 0 where
+  pub when : ℕ
+  pub was : Accepted calls log when (Set p stops)
+  pub no_set : (j other : ℕ) → when < j → Accepted calls log j (Set p other) → ⊥
+  pub no_clear : (j : ℕ) → when < j → Accepted calls log j (Clear p) → ⊥
+
+-- no set was accepted at p, or each was followed by a clear that was accepted there
+abbrev pub Emptied : List Call → List Line → ℕ → Type 0
+Emptied calls log p = (i stops : ℕ) → Accepted calls log i (Set p stops) → (j : ℕ) × (i < j) × Accepted calls log j (Clear p)
+
+-- What position p holds after these calls, by their answers alone.
+abbrev pub Holds : List Call → List Line → ℕ → Option ℕ → Type 0
+Holds calls log p (Some stops) = LastSet calls log p stops
+Holds calls log p None = Emptied calls log p

@@ -1,0 +1,128 @@
+-- What an organist is promised.
+use Rattle.std.specs.Prelude.{◌≡◌, ℕ, ◌<◌, ◌≤◌, true, false, List, is_ok, take, Some, None, Ok, Err, Option, Result}
+use Rattle.std.specs.List.{slice_get}
+use Rattle.part.specs.Meaning.{Meaning, worn, Lawful}
+use Rattle.part.specs.Calls.{longest}
+use Rattle.book.specs.Pages.{blank}
+use Rattle.book.specs.Finding.{begins, width, positions_of}
+use Rattle.console.specs.declared.fault.ConsoleFault.{ConsoleFault}
+use Rattle.console.specs.declared.answers.Answer.{Answer}
+use Rattle.console.specs.declared.answers.Said.{Said}
+use Rattle.console.specs.declared.answers.Said.TheVariants.{Shows, Finds}
+use Rattle.console.specs.declared.call.Call.{Call}
+use Rattle.console.specs.declared.call.Call.TheVariants.{Set, Clear, Recall, Next, Wait}
+use Rattle.console.specs.Desks.{Desk, closed, between, is_quiet}
+use Rattle.console.specs.Storing.{fits}
+use Rattle.console.specs.Calls.{Opens, Replies}
+use Rattle.rehearsal.specs.declared.line.Line.{Line}
+use Rattle.rehearsal.specs.declared.account.Seats.{Seats}
+use Rattle.rehearsal.specs.declared.account.Opening.{Opening}
+use Rattle.rehearsal.specs.declared.account.Rehearsal.{Rehearsal}
+use Rattle.rehearsal.specs.Accounts.{Played, Holds}
+
+-- what an answer says, if the call was accepted
+abbrev pub said : Result Answer ConsoleFault → Option Said
+said (Ok x) = Some x.said
+said (Err f) = None
+
+-- the nearest position after p that is not empty, of the positions up to n, or none
+abbrev pub Nearest : List Call → List Line → ℕ → ℕ → Option ℕ → Type 0
+Nearest calls log n p None = (q : ℕ) → p < q → q ≤ n → Holds calls log q None
+Nearest calls log n p (Some q) =
+    (p < q) × (q ≤ n) × ((stops : ℕ) × Holds calls log q (Some stops)) × ((j : ℕ) → p < j → j < q → Holds calls log j None)
+
+-- A recall is accepted and shows the stops of the last set accepted at p, or empty.
+abbrev pub ShowsLast : List Call → List Line → ℕ → Result Answer ConsoleFault → Type 0
+ShowsLast calls log p r = (o : Option ℕ) × (said r ≡ Some (Shows o)) × Holds calls log p o
+
+-- A next is accepted and gives the nearest later position that is not empty, or none.
+abbrev pub FindsNearest : List Call → List Line → ℕ → ℕ → Result Answer ConsoleFault → Type 0
+FindsNearest calls log n p r = (o : Option ℕ) × (said r ≡ Some (Finds o)) × Nearest calls log n p o
+
+-- recall and next
+abbrev pub OnlyLooks : Call → Type 0
+OnlyLooks (Set p s) = ⊥
+OnlyLooks (Clear p) = ⊥
+OnlyLooks (Recall p) = Unit {0}
+OnlyLooks (Next p) = Unit {0}
+OnlyLooks (Wait n) = ⊥
+
+-- an accepted call reports just so many microseconds
+abbrev pub Reports : ℕ → Result Answer ConsoleFault → Type 0
+Reports n (Ok x) = x.us ≡ n
+Reports n (Err f) = Unit {0}
+
+-- One console, with books of n positions, after these calls.
+pub record Kept (calls : List Call) (log : List Line) (n : ℕ) (e : Desk) : Type 0 where
+  -- after the list
+  pub recalls : (p : ℕ) → 1 ≤ p → p ≤ n → (r : Result Answer ConsoleFault) (k : Desk) → Replies e (Recall p) r k → ShowsLast calls log p r
+  pub nexts : (p : ℕ) → p ≤ n → (r : Result Answer ConsoleFault) (k : Desk) → Replies e (Next p) r k → FindsNearest calls log n p r
+  -- inside the list, by the account alone
+  pub recalls_inside : (i p : ℕ) (l : Line) → slice_get calls i ≡ Some (Recall p) → slice_get log i ≡ Some l → 1 ≤ p → p ≤ n
+      → ShowsLast (take i calls) (take i log) p l.reply
+  pub nexts_inside : (i p : ℕ) (l : Line) → slice_get calls i ≡ Some (Next p) → slice_get log i ≡ Some l → p ≤ n
+      → FindsNearest (take i calls) (take i log) n p l.reply
+  -- No recall or next, refused or not, moves the clock by more than 15 microseconds, and an accepted one reports just that.
+  pub prompt : (i : ℕ) (c : Call) (l : Line) → slice_get calls i ≡ Some c → slice_get log i ≡ Some l → OnlyLooks c
+      → (between l.before l.after ≤ 15) × Reports (between l.before l.after) l.reply
+
+-- two answers are the same, the microseconds aside
+abbrev pub Same : Result Answer ConsoleFault → Result Answer ConsoleFault → Type 0
+Same (Ok x) (Ok y) = x.said ≡ y.said
+Same (Ok x) (Err g) = ⊥
+Same (Err f) (Ok y) = ⊥
+Same (Err f) (Err g) = f ≡ g
+
+-- every answer is the same on both
+abbrev pub Alike : List Call → List Line → List Line → Type 0
+Alike calls quick slow =
+    (i : ℕ) (c : Call) (x y : Line) → slice_get calls i ≡ Some c → slice_get quick i ≡ Some x → slice_get slow i ≡ Some y → Same x.reply y.reply
+
+-- a call on books of n positions whose position, stops and time are within their limits
+abbrev pub Proper : ℕ → Call → Type 0
+Proper n (Set p stops) = (1 ≤ p) × (p ≤ n) × (fits (Some stops) ≡ true)
+Proper n (Clear p) = (1 ≤ p) × (p ≤ n)
+Proper n (Recall p) = (1 ≤ p) × (p ≤ n)
+Proper n (Next p) = p ≤ n
+Proper n (Wait us) = us ≤ longest
+
+-- no such call was refused
+abbrev pub Accepts : ℕ → List Call → List Line → Type 0
+Accepts n calls log = (i : ℕ) (c : Call) (l : Line) → slice_get calls i ≡ Some c → slice_get log i ≡ Some l → Proper n c → is_ok l.reply ≡ true
+
+-- a block that is FFh throughout
+abbrev pub BlankBlock : Meaning → ℕ → Type 0
+BlankBlock m a = blank m.cells (begins m a) (width m a) ≡ true
+
+-- The console was closed, and was opened on two books that were blank before.
+pub record FromBlank (d : Desk) (on : Seats) (o : Opening) : Type 0 where
+  pub closed : d.books ≡ None
+  pub first : BlankBlock d.part on.first
+  pub second : BlankBlock d.part on.second
+  pub accepted : is_ok o.reply ≡ true
+
+-- neither of the two blocks is worn
+abbrev pub Unworn : Meaning → Seats → Type 0
+Unworn m on = (worn m on.first ≡ false) × (worn m on.second ≡ false)
+
+-- how many positions a console has that is opened on these blocks
+abbrev pub positions : Meaning → Seats → ℕ
+positions m on = positions_of (width m on.first)
+
+-- What is promised of two consoles that were opened and given one list of calls: d and e are a console before and after.
+pub record Promise (calls : List Call) (quick slow : Seats) (d e k f : Desk) (r : Rehearsal) : Type 0 where
+  pub kept_quick : FromBlank d quick r.quick.opening → Kept calls r.quick.lines.items (positions d.part quick) e
+  pub kept_slow : FromBlank k slow r.slow.opening → Kept calls r.slow.lines.items (positions k.part slow) f
+  -- Without a worn book block nothing is refused that is within the limits.
+  pub accepts_quick : FromBlank d quick r.quick.opening → Unworn d.part quick → Accepts (positions d.part quick) calls r.quick.lines.items
+  pub accepts_slow : FromBlank k slow r.slow.opening → Unworn k.part slow → Accepts (positions k.part slow) calls r.slow.lines.items
+  -- Books of one size, and no book block worn: the two answer alike.
+  pub alike : FromBlank d quick r.quick.opening → FromBlank k slow r.slow.opening → width d.part quick.first ≡ width k.part slow.first
+      → Unworn d.part quick → Unworn k.part slow → Alike calls r.quick.lines.items r.slow.lines.items
+
+-- A console made anew over the same part and opened again is the one that was, whenever quiet answers yes: the state is in the
+-- part. Whatever was opened, blank or not, and whatever calls were made.
+abbrev pub SameAgain : Type 0
+SameAgain = (m : Meaning) (a b us : ℕ) (start e : Desk) (calls : List Call) (log : List Line)
+    → Lawful m → Opens (closed m) a b (Ok us) start → Lawful start.part → Played start calls log e → is_quiet e ≡ true
+    → (r : Result ℕ ConsoleFault) (again : Desk) → Opens (closed e.part) a b r again → (r ≡ Ok 0) × (again ≡ e)

@@ -1,0 +1,23 @@
+ghost use Rattle.console.specs.Desks.{desk, closed};
+ghost use Rattle.console.specs.Calls.{Opens};
+ghost use Rattle.rehearsal.specs.Promises.{SameAgain};
+
+use crate::account::Seats;
+use console::{Console, ConsoleFault};
+use part::Part;
+
+/// A console made anew over the same part and opened again, as after the power was off.
+#[tactic(auto, using(crate::proofs::Promised::same_again))]
+pub fn reopen<P: Part + Drop>(
+    console: Console<P>,
+    on: Seats,
+) -> (Console<P>, Result<u32, ConsoleFault>)
+    ensures again { Opens (closed (P.Part.means console.part)) on.first on.second result.1
+        (desk (P.Part.means result.0.part) result.0.books) }
+    // It is the console that was, if quiet answered yes.
+    ensures law { SameAgain }
+{
+    let mut anew = Console::new(console.into_part());
+    let reply = anew.open(on.first, on.second);
+    (anew, reply)
+}
