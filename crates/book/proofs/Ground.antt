@@ -1,12 +1,45 @@
 -- Where the books lie: each address of a book is inside the part and in the book's block.
-use Rattle.std.proofs.Common.{◌≡◌, ℕ, zero, suc, ◌+◌, ◌<◌, ◌≤◌, List, [], ◌∷◌, length, get_or, sym, ◌∙◌, inl, inr, arith}
+use Rattle.std.proofs.Common.{◌≡◌, ℕ, zero, suc, ◌+◌, ◌<◌, ◌≤◌, List, [], ◌∷◌, length, get_or, sym, ◌∙◌, inl, inr, arith, Bool, Option}
 use Rattle.std.proofs.lemmas.Bool.{cases_lt}
 use Rattle.geometry.specs.Blocks.{total, start_of}
 use Rattle.geometry.proofs.Placing.{block_is}
-use Rattle.part.specs.Meaning.{Meaning, size, count, block}
-use Rattle.book.specs.Pairs.{Pair, book_size}
+use Rattle.part.specs.Meaning.{Erasure, Meaning, size, count, block}
+use Rattle.book.specs.Pairs.{Pair, book_size, changed}
 use Rattle.book.specs.Finding.{begins, width}
 use Rattle.book.proofs.Seats.{Seated, SameOutside, SameInside}
+
+-- The two books stay where they are as long as the blocks, the guards and the size do.
+pub seated_in : (cells : List ℕ) (wears : List Bool) (e : Option Erasure) (clock : ℕ) (spoilt : Bool) (m : Meaning) (b : Pair)
+    → length cells ≡ length m.cells → Seated m b
+    → Seated (record { cells = cells; sizes = m.sizes; guards = m.guards; wears = wears; erasure = e; clock = clock })
+    (record { current = b.current; spare = b.spare; positions = b.positions; spoilt = spoilt })
+seated_in cells wears e clock spoilt m b l s = record {
+  whole = s.whole ∙ sym l;
+  current_in = s.current_in;
+  spare_in = s.spare_in;
+  current_start = s.current_start;
+  spare_start = s.spare_start;
+  current_width = s.current_width;
+  spare_width = s.spare_width;
+  distinct = s.distinct;
+  current_open = s.current_open;
+  spare_open = s.spare_open;
+}
+
+-- the same books the other way round
+pub seated_changed : (m : Meaning) (b : Pair) → Seated m b → Seated m (changed b)
+seated_changed m b s = record {
+  whole = s.whole;
+  current_in = s.spare_in;
+  spare_in = s.current_in;
+  current_start = s.spare_start;
+  spare_start = s.current_start;
+  current_width = s.spare_width;
+  spare_width = s.current_width;
+  distinct = λ d. s.distinct (sym d);
+  current_open = s.spare_open;
+  spare_open = s.current_open;
+}
 
 -- a block ends inside the row
 block_ends : (sizes : List ℕ) (b : ℕ) → b < length sizes → start_of sizes b + get_or sizes b 0 ≤ total sizes

@@ -12,6 +12,7 @@ use Rattle.book.specs.Pages.{page_at, shown, blank, readable_book}
 use Rattle.book.specs.Pairs.{Pair, book_size, changed}
 use Rattle.book.specs.Finding.{begins, width, positions_of, books_no, in_use, found, pair, Cleared, Taken, Settled, OpenedIf, Opened}
 use Rattle.book.proofs.Seats.{Seated}
+use Rattle.book.proofs.Ground.{seated_in, seated_changed}
 use Rattle.book.proofs.Stretches.{blank_at}
 use Rattle.book.proofs.Lines.{same_wider, same_set}
 use Rattle.book.proofs.Effects.{blank_same, books_apart_back, fresh_book}
@@ -103,21 +104,6 @@ seated_free m a b l s = record {
   spare_open = s.second_open;
 }
 
--- the same books the other way round
-turned_seats : (m : Meaning) (c : Pair) → Seated m c → Seated m (changed c)
-turned_seats m c s = record {
-  whole = s.whole;
-  current_in = s.spare_in;
-  spare_in = s.current_in;
-  current_start = s.spare_start;
-  spare_start = s.current_start;
-  current_width = s.spare_width;
-  spare_width = s.current_width;
-  distinct = λ d. s.distinct (sym d);
-  current_open = s.spare_open;
-  spare_open = s.current_open;
-}
-
 -- a blank book is not in use
 not_both : (xs : List ℕ) (at k : ℕ) → 1 ≤ k → blank xs at k ≡ true → get_or xs at 0 ≡ 0 → ⊥
 not_both xs at k l t e = let f : get_or xs at 0 ≡ 255 = blank_at xs at k t at (omega arith) (omega arith) in omega arith
@@ -140,18 +126,7 @@ module _ (m : Meaning) (a b : ℕ) (l : Lawful m) (free : books_no m a b ≡ Non
       let cells : List ℕ = set m.cells start 0 in
       subst (λ (v : Pair). OpenBooks m a b v n) (sym e.1) (subst (λ (v : Meaning). OpenBooks m a b (pair m a b) v) (sym took.is) (record {
         free = free;
-        seated = record {
-          whole = seats.whole ∙ sym (length-set m.cells start 0);
-          current_in = seats.current_in;
-          spare_in = seats.spare_in;
-          current_start = refl;
-          spare_start = refl;
-          current_width = seats.current_width;
-          spare_width = seats.spare_width;
-          distinct = seats.distinct;
-          current_open = seats.current_open;
-          spare_open = seats.spare_open;
-        };
+        seated = seated_in cells m.wears m.erasure _ false m (pair m a b) (length-set m.cells start 0) seats;
         blocks = inl (refl, refl);
         sizes = refl;
         guards = refl;
@@ -172,18 +147,7 @@ module _ (m : Meaning) (a b : ℕ) (l : Lawful m) (free : books_no m a b ≡ Non
     with_rest : (e : Option Erasure) → Rest (with_erasure m e) p → OpenBooks m a b p (with_erasure m e)
     with_rest e r = record {
       free = free;
-      seated = record {
-        whole = seats.whole;
-        current_in = seats.current_in;
-        spare_in = seats.spare_in;
-        current_start = seats.current_start;
-        spare_start = seats.spare_start;
-        current_width = seats.current_width;
-        spare_width = seats.spare_width;
-        distinct = seats.distinct;
-        current_open = seats.current_open;
-        spare_open = seats.spare_open;
-      };
+      seated = seated_in m.cells m.wears e m.clock p.spoilt m p refl seats;
       blocks = in_blocks;
       sizes = refl;
       guards = refl;
@@ -221,7 +185,7 @@ module _ (m : Meaning) (a b : ℕ) (l : Lawful m) (free : books_no m a b ≡ Non
       (λ i. not_both m.cells (begins m a) (width m a) (omega (arith, s.fits.sized)) i.0 head) c n x
   settled Second (second h r) c n x =
       let head : get_or m.cells (begins m b) 0 ≡ 0 = eqb-true _ 0 h in
-      taken (changed (pair m a b)) (turned_seats m (pair m a b) (seated_free m a b l s)) (inr (refl, refl)) refl refl head r
+      taken (changed (pair m a b)) (seated_changed m (pair m a b) (seated_free m a b l s)) (inr (refl, refl)) refl refl head r
       (λ i. not_both m.cells (begins m b) (width m b) (omega (arith, s.fits.sized, s.fits.equal)) i.1 head) c n x
   settled Neither neither c n x = let z : ◌≡◌ {A = ℕ} 0 1 = cc in absurd (omega arith)
 

@@ -1,11 +1,12 @@
 -- What holds of an open console between two calls.
-use Rattle.std.proofs.Common.{◌≡◌, ℕ, ◌≤◌, true, false, get_or, Result}
+use Rattle.std.proofs.Common.{◌≡◌, ℕ, ◌≤◌, true, false, get_or, Result, refl, ◌∙◌}
 use Rattle.std.specs.Prelude.{is_ok}
 use Rattle.part.specs.Meaning.{Meaning, worn, ticked}
 use Rattle.book.specs.Pages.{page_at, shown, readable_book}
 use Rattle.book.specs.Pairs.{Pair}
 use Rattle.book.specs.Finding.{width, positions_of}
 use Rattle.book.proofs.Seats.{Seated}
+use Rattle.book.proofs.Ground.{seated_in}
 pub use Rattle.book.proofs.Opening.{Rest, ready, erasing, spoilt, InBlocks}
 use Rattle.console.specs.declared.fault.ConsoleFault.{ConsoleFault}
 use Rattle.console.specs.declared.answers.Answer.{Answer}
@@ -44,18 +45,7 @@ rest_ticked m c time (spoilt i s w) = spoilt i s w
 
 pub keeps_ticked : (o : Meaning) (a b : ℕ) (f : Table) (m : Meaning) (c : Pair) (time : ℕ) → Keeps o a b f m c → Keeps o a b f (ticked m time) c
 keeps_ticked o a b f m c time k = record {
-  seated = record {
-    whole = k.seated.whole;
-    current_in = k.seated.current_in;
-    spare_in = k.seated.spare_in;
-    current_start = k.seated.current_start;
-    spare_start = k.seated.spare_start;
-    current_width = k.seated.current_width;
-    spare_width = k.seated.spare_width;
-    distinct = k.seated.distinct;
-    current_open = k.seated.current_open;
-    spare_open = k.seated.spare_open;
-  };
+  seated = seated_in m.cells m.wears m.erasure _ c.spoilt m c refl k.seated;
   blocks = k.blocks;
   sizes = k.sizes;
   guards = k.guards;
@@ -65,4 +55,20 @@ keeps_ticked o a b f m c time k = record {
   readable = k.readable;
   shows = k.shows;
   rest = rest_ticked m c time k.rest;
+}
+
+-- The same for a table that says the same of each position.
+pub keeps_for : (o : Meaning) (a b : ℕ) (f g : Table) (m : Meaning) (c : Pair) → ((q : ℕ) → 1 ≤ q → q ≤ c.positions → f q ≡ g q) → Keeps o a b f m c
+    → Keeps o a b g m c
+keeps_for o a b f g m c e k = record {
+  seated = k.seated;
+  blocks = k.blocks;
+  sizes = k.sizes;
+  guards = k.guards;
+  wears = k.wears;
+  positions = k.positions;
+  head = k.head;
+  readable = k.readable;
+  shows = λ q l h. k.shows q l h ∙ e q l h;
+  rest = k.rest;
 }

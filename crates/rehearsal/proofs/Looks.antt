@@ -11,6 +11,7 @@ use Rattle.book.specs.Reading.{reading}
 use Rattle.book.specs.Burning.{stops_of}
 use Rattle.book.specs.Pairs.{Pair}
 use Rattle.book.proofs.Seats.{Seated}
+use Rattle.book.proofs.Ground.{seated_in}
 use Rattle.book.proofs.Effects.{reads}
 use Rattle.console.specs.declared.fault.ConsoleFault.{ConsoleFault}
 use Rattle.console.specs.declared.answers.Recalled.{Recalled}
@@ -26,7 +27,7 @@ use Rattle.console.specs.Looking.{searched, filled_at, or_else, recalled, found,
 use Rattle.console.specs.Calls.{shows, finds, Replies}
 use Rattle.rehearsal.specs.Promises.{OnlyLooks, Reports}
 use Rattle.rehearsal.proofs.Tables.{Table, look, after, filled, or_then, nearest, is_position, tells}
-use Rattle.rehearsal.proofs.Keeping.{Rest, ready, erasing, spoilt, Keeps, Goes, keeps_ticked}
+use Rattle.rehearsal.proofs.Keeping.{Rest, ready, erasing, spoilt, Keeps, Goes, keeps_ticked, keeps_for}
 
 -- What a look at a part finds: each page of the current book as it stands, in at most 15 microseconds.
 record Glimpse (m : Meaning) (c : Pair) (held n : Meaning) : Type 0 where
@@ -34,21 +35,6 @@ record Glimpse (m : Meaning) (c : Pair) (held n : Meaning) : Type 0 where
   short : time ≤ 15
   is : n ≡ ticked m time
   page : (p : ℕ) → p ≤ c.positions → reading held (page_at c.current.start p) ≡ Ok (page_of m.cells (page_at c.current.start p))
-
--- The books stay where they are, whatever is erased.
-seated_held : (m : Meaning) (c : Pair) (o : Option Erasure) (time : ℕ) → Seated m c → Seated (ticked (with_erasure m o) time) c
-seated_held m c o time s = record {
-  whole = s.whole;
-  current_in = s.current_in;
-  spare_in = s.spare_in;
-  current_start = s.current_start;
-  spare_start = s.spare_start;
-  current_width = s.current_width;
-  spare_width = s.spare_width;
-  distinct = s.distinct;
-  current_open = s.current_open;
-  spare_open = s.spare_open;
-}
 
 -- Where no erasure stands there is nothing to hold.
 glimpse_idle : (m : Meaning) (c : Pair) (held n : Meaning) → Lawful m → Seated m c → m.erasure ≡ None → Held m held → n ≡ gone_on held
@@ -81,7 +67,7 @@ glimpse_held m c held n left s i h g =
           ∙ ap (λ (o : Option Erasure). ticked (with_erasure m o) x.time) (sym i);
       page = λ p j.
           ap (λ (y : Meaning). reading y (page_at c.current.start p)) x.is
-          ∙ reads (ticked (with_erasure m (turned false m.erasure)) x.time) c (seated_held m c (turned false m.erasure) x.time s) off p j;
+          ∙ reads (ticked (with_erasure m (turned false m.erasure)) x.time) c (seated_in m.cells m.wears (turned false m.erasure) _ c.spoilt m c refl s) off p j;
     }
 
 -- A look, whatever state the other book is in.
@@ -100,21 +86,6 @@ after_look (Next q) x true f p = refl
 after_look (Next q) x false f p = refl
 after_look (Wait us) x t f p = absurd x
 
--- Tables that are the same at each position say the same.
-pub keeps_table : (o : Meaning) (a b : ℕ) (f g : Table) (m : Meaning) (c : Pair) → ((p : ℕ) → g p ≡ f p) → Keeps o a b f m c → Keeps o a b g m c
-keeps_table o a b f g m c s k = record {
-  seated = k.seated;
-  blocks = k.blocks;
-  sizes = k.sizes;
-  guards = k.guards;
-  wears = k.wears;
-  positions = k.positions;
-  head = k.head;
-  readable = k.readable;
-  shows = λ p l h. k.shows p l h ∙ sym (s p);
-  rest = k.rest;
-}
-
 -- A look that took that time, and answered what the table tells.
 module _ (o : Meaning) (a b : ℕ) (f : Table) (m : Meaning) (c : Pair) (lawful : Lawful m) (k : Keeps o a b f m c) where
   looked : (call : Call) (r : Result Answer ConsoleFault) (e : Desk) (time : ℕ) → OnlyLooks call → time ≤ 15 → e ≡ opened (ticked m time) c
@@ -127,7 +98,7 @@ module _ (o : Meaning) (a b : ℕ) (f : Table) (m : Meaning) (c : Pair) (lawful 
       (record {
         books = c;
         leaves = refl;
-        keeps = keeps_table o a b f (after call (is_ok r) f) n c (after_look call x (is_ok r) f) (keeps_ticked o a b f m c time k);
+        keeps = keeps_for o a b f (after call (is_ok r) f) n c (λ p _ _. sym (after_look call x (is_ok r) f p)) (keeps_ticked o a b f m c time k);
         looks = λ _. t;
         sure = λ _ _. t;
         prompt = λ _. (subst (λ (y : ℕ). y ≤ 15) (sym passed) h, subst (λ (y : ℕ). Reports y r) (sym passed) u);

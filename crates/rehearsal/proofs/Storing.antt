@@ -12,7 +12,8 @@ use Rattle.book.specs.Burning.{Ran, line_added}
 use Rattle.book.specs.declared.page.Page.{Page}
 use Rattle.book.specs.Reading.{reading}
 use Rattle.book.specs.Pairs.{Pair, book_size, changed, spoilt_if}
-use Rattle.book.proofs.Seats.{Seated, SameOutside, SameInside, StopsFit}
+use Rattle.book.proofs.Seats.{SameOutside, SameInside, StopsFit}
+use Rattle.book.proofs.Ground.{seated_in, seated_changed}
 use Rattle.book.proofs.Lines.{same_clear, same_wider}
 use Rattle.book.proofs.Effects.{reads, blank_same, shown_same, page_same, pages_at, pages_from, page_apart, books_apart_back, WornRefused, line_done, line_worn, copy_done, copy_worn}
 use Rattle.console.specs.declared.fault.ConsoleFault.{ConsoleFault}
@@ -27,7 +28,7 @@ use Rattle.console.specs.declared.call.Call.TheVariants.{Set, Clear}
 use Rattle.console.specs.Calls.{done, Replies}
 use Rattle.console.proofs.Ways.{Went, empty, line, change, spoilt as refused, went}
 use Rattle.rehearsal.proofs.Tables.{Table, look, is_position, outside}
-use Rattle.rehearsal.proofs.Keeping.{Rest, ready, erasing, spoilt, InBlocks, Keeps, keeps_ticked, Goes}
+use Rattle.rehearsal.proofs.Keeping.{Rest, ready, erasing, spoilt, InBlocks, Keeps, keeps_ticked, keeps_for, Goes}
 
 -- the table with something new at p, if it was accepted
 abbrev pub put : ℕ → Option ℕ → Bool → Table → Table
@@ -48,52 +49,6 @@ unworn o a b f m c k s t =
       | inl e ↦ (at c.current.block a e.0 s, at c.spare.block b e.1 t)
       | inr e ↦ (at c.current.block b e.0 t, at c.spare.block a e.1 s)
     ]
-
--- The same for a table that says the same of each position.
-pub keeps_for : (o : Meaning) (a b : ℕ) (f g : Table) (m : Meaning) (c : Pair) → ((q : ℕ) → 1 ≤ q → q ≤ c.positions → f q ≡ g q) → Keeps o a b f m c
-    → Keeps o a b g m c
-keeps_for o a b f g m c e k = record {
-  seated = k.seated;
-  blocks = k.blocks;
-  sizes = k.sizes;
-  guards = k.guards;
-  wears = k.wears;
-  positions = k.positions;
-  head = k.head;
-  readable = k.readable;
-  shows = λ q l h. k.shows q l h ∙ e q l h;
-  rest = k.rest;
-}
-
--- the books stay where they are when cells change
-seated_cells : (m : Meaning) (c : Pair) (cells : List ℕ) (time : ℕ) → length cells ≡ length m.cells → Seated m c → Seated (ticked (with_cells m cells) time) c
-seated_cells m c cells time l s = record {
-  whole = s.whole ∙ sym l;
-  current_in = s.current_in;
-  spare_in = s.spare_in;
-  current_start = s.current_start;
-  spare_start = s.spare_start;
-  current_width = s.current_width;
-  spare_width = s.spare_width;
-  distinct = s.distinct;
-  current_open = s.current_open;
-  spare_open = s.spare_open;
-}
-
--- the two books in their new places
-seated_changed : (m : Meaning) (c : Pair) (e : Option Erasure) → Seated m c → Seated (with_erasure m e) (changed c)
-seated_changed m c e s = record {
-  whole = s.whole;
-  current_in = s.spare_in;
-  spare_in = s.current_in;
-  current_start = s.spare_start;
-  spare_start = s.current_start;
-  current_width = s.spare_width;
-  spare_width = s.current_width;
-  distinct = λ d. s.distinct (sym d);
-  current_open = s.spare_open;
-  spare_open = s.current_open;
-}
 
 blocks_changed : (a b : ℕ) (c : Pair) → InBlocks a b c → InBlocks a b (changed c)
 blocks_changed a b c (inl e) = inr (e.1, e.0)
@@ -145,7 +100,7 @@ module _ (o : Meaning) (a b : ℕ) (f : Table) (k : Meaning) (c : Pair) (p : ℕ
     keeps_line : (time : ℕ) → length cells ≡ length k.cells → shown cells (page_at c.current.start p) ≡ new
         → readable_page cells (page_at c.current.start p) ≡ true → Keeps o a b (put p new true f) (ticked (with_cells k cells) time) c
     keeps_line time l s t = record {
-      seated = seated_cells k c cells time l h.seated;
+      seated = seated_in cells k.wears k.erasure _ c.spoilt k c l h.seated;
       blocks = h.blocks;
       sizes = h.sizes;
       guards = h.guards;
@@ -194,10 +149,9 @@ module _ (o : Meaning) (a b : ℕ) (f : Table) (k : Meaning) (c : Pair) (p : ℕ
         → ((q : ℕ) → 1 ≤ q → q ≤ c.positions → shown cells (page_at c.spare.start q) ≡ cond (eqb q p) new (shown k.cells (page_at c.current.start q)))
         → Keeps o a b (put p new true f) n (changed c)
     keeps_changed n g s i t u =
-        let seated = seated_changed copied c (Some (record { block = c.current.block; left = g.left; running = true }))
-        (seated_cells k c cells time long h.seated) in
         subst (λ (y : Meaning). Keeps o a b (put p new true f) y (changed c)) (sym g.is) (record {
-          seated = seated;
+          seated = seated_changed (with_erasure copied (Some (record { block = c.current.block; left = g.left; running = true }))) c
+              (seated_in cells k.wears (Some (record { block = c.current.block; left = g.left; running = true })) copied.clock c.spoilt k c long h.seated);
           blocks = blocks_changed a b c h.blocks;
           sizes = h.sizes;
           guards = h.guards;

@@ -10,6 +10,7 @@ use Rattle.part.specs.Calls.{longest, erased, run_on, passed, progress, after_pa
 use Rattle.book.specs.Pages.{page_at, blank, readable_pages}
 use Rattle.book.specs.Pairs.{Pair, book_size, spoilt_if}
 use Rattle.book.proofs.Seats.{SameInside}
+use Rattle.book.proofs.Ground.{seated_in}
 use Rattle.book.proofs.Effects.{blank_same, shown_same, pages_same, page_inside, erased_spare, erased_current}
 use Rattle.console.specs.declared.fault.ConsoleFault.{ConsoleFault}
 use Rattle.console.specs.declared.answers.Answer.{Answer}
@@ -18,8 +19,7 @@ use Rattle.console.specs.Desks.{Desk, opened}
 use Rattle.console.specs.Waiting.{wait_time, let_end_by, let_end, ends_worn_by, ends_worn, is_worn, pass_worn}
 use Rattle.console.specs.Calls.{wait_report, done, Waits, Replies}
 use Rattle.rehearsal.proofs.Tables.{Table, look, after, tells}
-use Rattle.rehearsal.proofs.Keeping.{Rest, ready, erasing, spoilt, Keeps, Goes, keeps_ticked}
-use Rattle.rehearsal.proofs.Looks.{keeps_table}
+use Rattle.rehearsal.proofs.Keeping.{Rest, ready, erasing, spoilt, Keeps, Goes, keeps_ticked, keeps_for}
 
 -- A book that is not spoilt now is as spoilt as it was.
 not_spoilt : (c : Pair) → spoilt_if false c ≡ c
@@ -38,18 +38,7 @@ keeps_later o a b f m c cells x time s k l i t =
     let n : ℕ = c.positions in
     let parts = and_parts (blank m.cells (start + 1) 63) (readable_pages m.cells start n) k.readable in
     record {
-      seated = record {
-        whole = k.seated.whole ∙ sym l;
-        current_in = k.seated.current_in;
-        spare_in = k.seated.spare_in;
-        current_start = k.seated.current_start;
-        spare_start = k.seated.spare_start;
-        current_width = k.seated.current_width;
-        spare_width = k.seated.spare_width;
-        distinct = k.seated.distinct;
-        current_open = k.seated.current_open;
-        spare_open = k.seated.spare_open;
-      };
+      seated = seated_in cells m.wears x _ (c.spoilt || s) m c l k.seated;
       blocks = k.blocks;
       sizes = k.sizes;
       guards = k.guards;
@@ -191,7 +180,7 @@ module _ (o : Meaning) (a b : ℕ) (f : Table) (m : Meaning) (c : Pair) (k : Kee
       (record {
         books = x;
         leaves = refl;
-        keeps = keeps_table o a b f (after (Wait us) (is_ok r) f) n x (after_wait us (is_ok r) f) j;
+        keeps = keeps_for o a b f (after (Wait us) (is_ok r) f) n x (λ p _ _. sym (after_wait us (is_ok r) f p)) j;
         looks = λ z. absurd z;
         sure = λ _ _. t;
         prompt = λ z. absurd z;

@@ -1,0 +1,3 @@
+pub mod Complaints
+pub mod Taking
+pub mod Setups

@@ -1,0 +1,39 @@
+ghost use Rattle.std.specs.Prelude.{◌≡◌};
+ghost use Rattle.pile.specs.declared.unmade.Unmade.TheVariants.{Memory};
+
+use part::PartFault;
+use std::alloc::AllocError;
+use std::fmt;
+
+/// Why a pile was not made.
+#[derive(Clone, Copy, Debug, PartialEq, Eq)]
+pub enum Unmade {
+    /// More than four pieces were named.
+    TooMany,
+    /// A piece, counted from 0, cannot be made of its numbers.
+    Refused { piece: usize, fault: PartFault },
+    /// There was no memory for a piece's cells.
+    Memory,
+}
+
+impl fmt::Display for Unmade {
+    fn fmt<W: fmt::Write>(&self, f: &mut fmt::Formatter<W>) -> fmt::Result {
+        match self {
+            Unmade::TooMany => write!(f, "more than four pieces"),
+            Unmade::Refused { piece, fault } => {
+                write!(f, "piece {piece} is refused with {}", fault.cause.number())
+            }
+            Unmade::Memory => write!(f, "out of memory"),
+        }
+    }
+}
+
+impl std::error::Error for Unmade {}
+
+impl From<AllocError> for Unmade {
+    ghost from_gives = { λ _ e. e ≡ Memory };
+
+    fn from(_none: AllocError) -> Unmade {
+        Unmade::Memory
+    }
+}

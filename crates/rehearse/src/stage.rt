@@ -1,0 +1,118 @@
+// The two consoles, and the steps of a script on them.
+use crate::parts::part_of;
+use crate::sheet::Sheet;
+use crate::stopped::Stopped;
+use console::{Call, Console};
+use pile::Pile;
+use rehearsal::{Seats, rehearse};
+use script::{Reply, Request, Script, Step};
+use std::alloc::Global;
+use std::io;
+
+/// The quick console and the slow one.
+#[derive(Drop)]
+pub struct Stage {
+    heap: Global,
+    quick: Console<Pile>,
+    slow: Console<Pile>,
+}
+
+// The calls of some steps, if they are nothing but calls of the list.
+fn calls_of(heap: Global, steps: &[Step]) -> Result<Option<Vec<Call>>, Stopped> {
+    let mut calls = Vec::with_capacity(heap, steps.len())?;
+    for step in steps {
+        match step.request {
+            Request::Call(call) => calls.push(call)?,
+            _ => return Ok(None),
+        }
+    }
+    Ok(Some(calls))
+}
+
+// The seats and the calls of a script that is one open and then a list of calls.
+fn list_of(heap: Global, steps: &[Step]) -> Result<Option<(Seats, Seats, Vec<Call>)>, Stopped> {
+    let Some((first, rest)) = steps.split_first() else {
+        return Ok(None);
+    };
+    let Request::Open(quick, slow) = first.request else {
+        return Ok(None);
+    };
+    Ok(calls_of(heap, rest)?.map(|calls| (quick, slow, calls)))
+}
+
+impl Stage {
+    /// Both consoles over the parts that a script names.
+    pub fn of(heap: Global, text: &[u8], script: &Script) -> Result<Stage, Stopped> {
+        Ok(Stage {
+            heap,
+            quick: Console::new(part_of(heap, text, b"quick", script.quick)?),
+            slow: Console::new(part_of(heap, text, b"slow", script.slow)?),
+        })
+    }
+
+    // Makes one request of both consoles.
+    fn ask(&mut self, request: Request) -> (Reply, Reply) {
+        match request {
+            Request::Open(quick, slow) => (
+                Reply::Opened(self.quick.open(quick.first, quick.second)),
+                Reply::Opened(self.slow.open(slow.first, slow.second)),
+            ),
+            Request::Call(call) => (
+                Reply::Called(self.quick.perform(call)),
+                Reply::Called(self.slow.perform(call)),
+            ),
+            Request::Quiet => (
+                Reply::Quiet(self.quick.quiet()),
+                Reply::Quiet(self.slow.quiet()),
+            ),
+        }
+    }
+
+    // One open and a list of calls: by the function that carries the promise.
+    fn play_list<W: io::Write + Drop>(
+        &mut self,
+        sheet: &mut Sheet<W>,
+        steps: &[Step],
+        quick: Seats,
+        slow: Seats,
+        calls: &[Call],
+    ) -> Result<(), Stopped> {
+        let heard = rehearse(
+            self.heap,
+            &mut self.quick,
+            &mut self.slow,
+            quick,
+            slow,
+            calls,
+        )?;
+        let Some((first, rest)) = steps.split_first() else {
+            return Ok(());
+        };
+        let opened = (heard.quick.opening.reply, heard.slow.opening.reply);
+        sheet.add(first, Reply::Opened(opened.0), Reply::Opened(opened.1))?;
+        for (step, (a, b)) in rest
+            .iter()
+            .zip(heard.quick.lines.iter().zip(heard.slow.lines.iter()))
+        {
+            sheet.add(step, Reply::Called(a.reply), Reply::Called(b.reply))?;
+        }
+        Ok(())
+    }
+
+    /// Makes the steps of a script on both consoles, and prints the account.
+    pub fn play(&mut self, rt: &HostRuntime, text: &[u8], steps: &[Step]) -> Result<(), Stopped> {
+        let mut sheet = Sheet::new(self.heap, text, io::writer(rt))?;
+        match list_of(self.heap, steps)? {
+            Some((quick, slow, calls)) => {
+                self.play_list(&mut sheet, steps, quick, slow, calls.as_slice())?;
+            }
+            None => {
+                for step in steps {
+                    let (quick, slow) = self.ask(step.request);
+                    sheet.add(step, quick, slow)?;
+                }
+            }
+        }
+        sheet.end()
+    }
+}

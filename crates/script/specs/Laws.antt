@@ -1,0 +1,127 @@
+-- What is written is read again.
+use Rattle.std.specs.Prelude.{◌≡◌, ℕ, ◌^◌, ◌<◌, List, [], ◌∷◌, ◌++◌, length, map, Some, Ok, codes, if◌then◌else◌, ◌==◌}
+use Rattle.std.specs.List.{flat_map, AllByRecursion}
+use Rattle.std.specs.Fmt.{decimal}
+use Rattle.chip.specs.declared.setup.Setup.{Setup}
+use Rattle.rehearsal.specs.declared.account.Seats.{Seats}
+use Rattle.console.specs.declared.call.Call.{Call}
+use Rattle.console.specs.declared.call.Call.TheVariants.{Set, Clear, Recall, Next, Wait}
+use Rattle.words.specs.Lines.{spaced}
+use Rattle.pile.specs.declared.kind.Kind.{Kind}
+use Rattle.pile.specs.declared.kind.Kind.TheVariants.{Chip, Array}
+use Rattle.script.specs.declared.entry.Pieces.{Pieces}
+use Rattle.script.specs.declared.entry.Pieces.TheVariants.{One, Two, Three, Four}
+use Rattle.script.specs.declared.entry.Request.{Request}
+use Rattle.script.specs.declared.entry.Request.TheVariants as requests
+use Rattle.script.specs.declared.entry.Entry.{Entry}
+use Rattle.script.specs.declared.entry.Entry.TheVariants as entries
+use Rattle.script.specs.declared.script.Step.{Step}
+use Rattle.script.specs.Answers.{sixteen}
+use Rattle.naming.specs.Taking.{Words}
+use Rattle.script.specs.Grammar.{asked, line_read}
+use Rattle.script.specs.Scripts.{Plan, script_of}
+
+-- The words of each entry, with all its numbers in decimal and both masks.
+
+abbrev pub geometry_word : ℕ → List ℕ
+geometry_word kind = if kind == 0 then codes "t004" else (if kind == 1 then codes "b004" else codes "bench")
+
+abbrev pub setup_words : Setup → Words
+setup_words s =
+    codes "chip" ∷ geometry_word s.kind ∷ decimal s.program ∷ decimal s.erase ∷ decimal s.suspend
+    ∷ codes "protect" ∷ decimal s.protected ∷ codes "worn" ∷ decimal s.worn ∷ []
+
+abbrev pub kind_words : Kind → Words
+kind_words (Chip s) = setup_words s
+kind_words (Array l) = codes "array" ∷ decimal l.count ∷ decimal l.width ∷ []
+
+abbrev pub pieces_words : Pieces → Words
+pieces_words (One a) = kind_words a
+pieces_words (Two a b) = kind_words a ++ (codes "+" ∷ kind_words b)
+pieces_words (Three a b c) = kind_words a ++ (codes "+" ∷ (kind_words b ++ (codes "+" ∷ kind_words c)))
+pieces_words (Four a b c d) = kind_words a ++ (codes "+" ∷ (kind_words b ++ (codes "+" ∷ (kind_words c ++ (codes "+" ∷ kind_words d)))))
+
+abbrev pub call_words : Call → Words
+call_words (Set p stops) = codes "set" ∷ decimal p ∷ decimal stops ∷ []
+call_words (Clear p) = codes "clear" ∷ decimal p ∷ []
+call_words (Recall p) = codes "recall" ∷ decimal p ∷ []
+call_words (Next p) = codes "next" ∷ decimal p ∷ []
+call_words (Wait n) = codes "wait" ∷ decimal n ∷ []
+
+abbrev pub request_words : Request → Words
+request_words (requests.Open a b) = codes "open" ∷ decimal a.first ∷ decimal a.second ∷ decimal b.first ∷ decimal b.second ∷ []
+request_words (requests.Call c) = call_words c
+request_words requests.Quiet = codes "quiet" ∷ []
+
+abbrev pub written : Entry → Words
+written (entries.Quick p) = codes "quick" ∷ pieces_words p
+written (entries.Slow p) = codes "slow" ∷ pieces_words p
+written (entries.Request r) = request_words r
+
+-- The numbers fit their types, and a chip has one of the three geometries.
+
+pub record ProperSetup (s : Setup) : Type 0 where
+  pub kind : s.kind < 3
+  pub program : s.program < 2 ^ 32
+  pub erase : s.erase < 2 ^ 32
+  pub suspend : s.suspend < 2 ^ 32
+  pub protected : s.protected < 2 ^ 32
+  pub worn : s.worn < 2 ^ 32
+
+abbrev pub ProperKind : Kind → Type 0
+ProperKind (Chip s) = ProperSetup s
+ProperKind (Array l) = (l.count < 2 ^ 32) × (l.width < 2 ^ 32)
+
+abbrev pub ProperPieces : Pieces → Type 0
+ProperPieces (One a) = ProperKind a
+ProperPieces (Two a b) = ProperKind a × ProperKind b
+ProperPieces (Three a b c) = ProperKind a × ProperKind b × ProperKind c
+ProperPieces (Four a b c d) = ProperKind a × ProperKind b × ProperKind c × ProperKind d
+
+abbrev pub ProperSeats : Seats → Type 0
+ProperSeats on = (on.first < 2 ^ 32) × (on.second < 2 ^ 32)
+
+abbrev pub ProperCall : Call → Type 0
+ProperCall (Set p stops) = (p < 2 ^ 32) × (stops < 2 ^ 64)
+ProperCall (Clear p) = p < 2 ^ 32
+ProperCall (Recall p) = p < 2 ^ 32
+ProperCall (Next p) = p < 2 ^ 32
+ProperCall (Wait n) = n < 2 ^ 32
+
+abbrev pub ProperRequest : Request → Type 0
+ProperRequest (requests.Open a b) = ProperSeats a × ProperSeats b
+ProperRequest (requests.Call c) = ProperCall c
+ProperRequest requests.Quiet = Unit {0}
+
+abbrev pub Proper : Entry → Type 0
+Proper (entries.Quick p) = ProperPieces p
+Proper (entries.Slow p) = ProperPieces p
+Proper (entries.Request r) = ProperRequest r
+
+-- Each entry that is written in its words is read as that entry.
+abbrev pub EntriesAgain : Type 0
+EntriesAgain = (e : Entry) → Proper e → line_read (spaced (written e)) ≡ Ok (Some e)
+
+-- The stops that a recall shows, put behind 0x, set the same stops again.
+abbrev pub StopsAgain : Type 0
+StopsAgain = (p stops : ℕ) → p < 2 ^ 32 → stops < 2 ^ 64
+    → (length (sixteen stops) ≡ 16) × (line_read (spaced (codes "set" ∷ decimal p ∷ (codes "0x" ++ sixteen stops) ∷ [])) ≡ Ok (Some (asked (Set p stops))))
+
+-- The lines of a script that names both parts and then makes requests.
+abbrev pub script_entries : Pieces → Pieces → List Request → List Entry
+script_entries quick slow requests = entries.Quick quick ∷ entries.Slow slow ∷ map (λ r. entries.Request r) requests
+
+-- entries, each on a line of its own
+abbrev pub script_text : List Entry → List ℕ
+script_text es = flat_map (λ e. spaced (written e) ++ 10 ∷ []) es
+
+-- the parts and the requests of a script
+pub record IsScript (quick slow : Pieces) (requests : List Request) (p : Plan) : Type 0 where
+  pub quick_is : p.quick ≡ quick
+  pub slow_is : p.slow ≡ slow
+  pub requests_are : map (λ (x : Step). x.request) p.steps ≡ requests
+
+-- A script that is written line by line is read as that script.
+abbrev pub ScriptsAgain : Type 0
+ScriptsAgain = (quick slow : Pieces) (requests : List Request) → AllByRecursion Proper (script_entries quick slow requests)
+    → (p : Plan) × (script_of (script_text (script_entries quick slow requests)) ≡ Ok p) × IsScript quick slow requests p

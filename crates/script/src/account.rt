@@ -1,0 +1,30 @@
+// A line of an account.
+ghost use Rattle.std.specs.Prelude.{◌≡◌, ◌++◌, ◌↔◌, IsTrue, IfOk};
+ghost use Rattle.words.specs.Lines.{uncommented, words_of};
+ghost use Rattle.script.specs.Account.{line_text};
+ghost use Rattle.script.specs.Alike.{SameReply};
+
+use crate::answers::Verdict;
+use crate::replies::Reply;
+use std::alloc::{AllocError, Global};
+use words::{push_words, uncommented};
+
+/// Writes a line of an account: the words of a request as they are written, what both consoles answered, and whether it is the same,
+/// which it gives back too.
+pub fn push_line(
+    heap: Global,
+    out: &mut Vec<u8>,
+    line: &[u8],
+    quick: Reply,
+    slow: Reply,
+) -> Result<bool, AllocError>
+    ensures same { IfOk result (λ same. IsTrue same ↔ SameReply quick slow) }
+    ensures text { IfOk result (λ same. out.new.items ≡ out.old.items ++ line_text (words_of (uncommented line.now)) quick slow same) }
+{
+    push_words(out, uncommented(line))?;
+    let same = quick.is_same(slow);
+    let verdict = Verdict(same);
+    let answers = format!(in heap; ": {quick} | {slow} | {verdict}\n")?;
+    out.extend_from_slice(answers.as_bytes())?;
+    Ok(same)
+}

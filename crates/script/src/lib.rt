@@ -1,0 +1,21 @@
+//! Scripts: what a line of one says, a whole script, and the text of the answers to it.
+#![tactic(auto)]
+
+mod account;
+mod alike;
+mod answers;
+mod draft;
+mod entry;
+mod head;
+mod reading;
+mod replies;
+mod script;
+mod unread;
+
+pub use account::push_line;
+pub use draft::read;
+pub use entry::{Entry, Pieces, Request};
+pub use reading::parse;
+pub use replies::Reply;
+pub use script::{Script, Step};
+pub use unread::{Complaint, Unread};
