@@ -1,7 +1,7 @@
 // The array's calls as a part.
-ghost use Rattle.std.specs.Prelude.{◌≡◌};
+ghost use Rattle.std.specs.Prelude.{◌≡◌, ◌+◌, ◌%◌, OnOk};
 ghost use Rattle.array.specs.Means.{means as meaning};
-ghost use Rattle.part.specs.Calls.{can_hold, can_go};
+ghost use Rattle.part.specs.Calls.{answer, burn_no, Burnt, can_hold, can_go, Held};
 ghost use Rattle.array.specs.Facts;
 
 use crate::array::Array;
@@ -43,7 +43,12 @@ impl Part for Array {
         Ok(self.cell(address))
     }
 
-    fn burn(&mut self, address: u32, byte: u8) -> Result<(), PartFault> {
+    // An array burns in 1 microsecond, which the part's own clauses leave open.
+    fn burn(&mut self, address: u32, byte: u8) -> Result<(), PartFault>
+        ensures answer { result ≡ answer (burn_no (meaning self.old) address byte) address tt }
+        ensures burnt { Burnt (meaning self.old) address byte (meaning self.new) }
+        ensures time { OnOk result ((meaning self.new).clock ≡ ((meaning self.old).clock + 1) % 4294967296) }
+    {
         granted(self.burn_no(address, byte), address)?;
         self.put(address, byte);
         self.count_time(1);
@@ -58,7 +63,12 @@ impl Part for Array {
     }
 
     #[tactic(auto, using(crate::specs::Facts::held_running))]
-    fn hold(&mut self) -> Turn {
+    // An array is held in no time.
+    fn hold(&mut self) -> Turn
+        ensures answer { result ≡ can_hold (meaning self.old).erasure }
+        ensures held { Held (meaning self.old) (meaning self.new) }
+        ensures time { (meaning self.new).clock ≡ (meaning self.old).clock }
+    {
         match self.standing {
             Standing::Running(block) => {
                 self.stand(Standing::Suspended(block));
