@@ -63,7 +63,7 @@ impl Chip {
     {
         self.inside(address)?;
         let byte = self.show(address);
-        self.state = self.state.flipped();
+        self.state.flip();
         Ok(byte)
     }
 

@@ -24,30 +24,24 @@ impl Erase {
         status_byte(0xFF, self.toggle, false, self.phase == Phase::Erasing)
     }
 
-    fn flipped(self) -> Erase
-        ensures { result ≡ flip_erase self }
+    fn flip(&mut self)
+        ensures { self.new ≡ flip_erase self.old }
     {
-        Erase {
-            toggle: !self.toggle,
-            ..self
-        }
+        self.toggle = !self.toggle;
     }
 }
 
 impl State {
-    // The state after a read: a read of the status flips the toggle bit.
-    pub(crate) fn flipped(self) -> State
-        ensures { result ≡ flipped self }
+    // A read of the status flips the toggle bit. It is done in place: a state that is made anew at each read costs as much again as the read.
+    pub(crate) fn flip(&mut self)
+        ensures { self.new ≡ flipped self.old }
     {
         match self {
-            State::Programming(p) => State::Programming(Program {
-                toggle: !p.toggle,
-                ..p
-            }),
-            State::Erasing(e) => State::Erasing(e.flipped()),
-            State::Suspending(e, wait) => State::Suspending(e.flipped(), wait),
-            State::Failed(byte, toggle) => State::Failed(byte, !toggle),
-            quiet => quiet,
+            State::Programming(p) => p.toggle = !p.toggle,
+            State::Erasing(e) => e.flip(),
+            State::Suspending(e, _) => e.flip(),
+            State::Failed(_, toggle) => *toggle = !*toggle,
+            _ => {}
         }
     }
 }

@@ -27,21 +27,15 @@ impl State {
         }
     }
 
-    // The state with n microseconds less to go.
-    fn lowered(self, n: u32) -> State
-        ensures { result ≡ lowered n self }
+    // n microseconds less to go.
+    fn lower(&mut self, n: u32)
+        ensures { self.new ≡ lowered n self.old }
     {
         match self {
-            State::Programming(p) => State::Programming(Program {
-                left: p.left.saturating_sub(n),
-                ..p
-            }),
-            State::Erasing(e) => State::Erasing(Erase {
-                left: e.left.saturating_sub(n),
-                ..e
-            }),
-            State::Suspending(e, wait) => State::Suspending(e, wait.saturating_sub(n)),
-            lasting => lasting,
+            State::Programming(p) => p.left = p.left.saturating_sub(n),
+            State::Erasing(e) => e.left = e.left.saturating_sub(n),
+            State::Suspending(_, wait) => *wait = wait.saturating_sub(n),
+            _ => {}
         }
     }
 }
@@ -150,7 +144,7 @@ impl Chip {
             return 0;
         };
         if n < left {
-            self.state = self.state.lowered(n);
+            self.state.lower(n);
             return 0;
         }
         self.end();

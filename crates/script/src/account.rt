@@ -7,7 +7,11 @@ ghost use Rattle.script.specs.Alike.{SameReply};
 use crate::answers::Verdict;
 use crate::replies::Reply;
 use std::alloc::{AllocError, Global};
+use std::fmt::Write;
 use words::{push_words, uncommented};
+
+// Room for the two answers of most lines, so that they are written without asking for more memory.
+const ROOM: usize = 128;
 
 /// Writes a line of an account: the words of a request as they are written, what both consoles answered, and whether it is the same,
 /// which it gives back too.
@@ -24,7 +28,8 @@ pub fn push_line(
     push_words(out, uncommented(line))?;
     let same = quick.is_same(slow);
     let verdict = Verdict(same);
-    let answers = format!(in heap; ": {quick} | {slow} | {verdict}\n")?;
+    let mut answers = String::with_capacity(heap, ROOM)?;
+    write!(answers, ": {quick} | {slow} | {verdict}\n")?;
     out.extend_from_slice(answers.as_bytes())?;
     Ok(same)
 }

@@ -15,7 +15,7 @@ returns-then-n-left c =
     let f = view c.args.self.now in
     let e : due f.state ≡ Some c.in-Some.left = cc in
     record {
-      same = until c.args.n c.in-Some.left f e c.if-n-left.true ∙ ap (with_state f) (sym c.lowered-self.ensures) ∙ sym (steps_none _);
+      same = until c.args.n c.in-Some.left f e c.if-n-left.true ∙ ap (with_state f) (sym c.lower.ensures) ∙ sym (steps_none _);
       less = λ h. h;
     }
 
