@@ -1,9 +1,10 @@
 // A rehearsal: the same calls on a console over a quick part and on one over a slow part, side by side.
 use array::Layout;
 use chip::Setup;
-use console::{Answer, Call, Console, ConsoleFault, Said};
+use console::{Call, Console};
 use driver::Driven;
-use rehearsal::{Opening, Seats, rehearse};
+use rehearsal::{Seats, rehearse};
+use script::Reply;
 use std::alloc::{AllocError, Global};
 use workbench::{Trouble, blank_array, blank_chip};
 
@@ -91,43 +92,10 @@ fn call_text(heap: Global, call: Call) -> Result<String, AllocError> {
     }
 }
 
-fn said_text(heap: Global, said: Said) -> Result<String, AllocError> {
-    match said {
-        Said::Done => format!(in heap; "done"),
-        Said::Shows(None) => format!(in heap; "empty"),
-        Said::Shows(Some(stops)) => format!(in heap; "stops {stops:X}"),
-        Said::Finds(None) => format!(in heap; "none"),
-        Said::Finds(Some(position)) => format!(in heap; "position {position}"),
-    }
-}
-
-fn fault_text(heap: Global, fault: ConsoleFault) -> Result<String, AllocError> {
-    let number = fault.cause.number();
-    let place = fault.place;
-    let position = fault.position;
-    format!(in heap; "refused {number} place {place} position {position}")
-}
-
-fn reply_text(heap: Global, reply: Result<Answer, ConsoleFault>) -> Result<String, AllocError> {
-    match reply {
-        Err(fault) => fault_text(heap, fault),
-        Ok(answer) => {
-            let said = said_text(heap, answer.said)?;
-            let us = answer.us;
-            format!(in heap; "{said}, {us} us")
-        }
-    }
-}
-
-fn opening_text(heap: Global, opening: Opening) -> Result<String, AllocError> {
-    match opening.reply {
-        Err(fault) => fault_text(heap, fault),
-        Ok(us) => format!(in heap; "done, {us} us"),
-    }
-}
-
-fn print_row(rt: &HostRuntime, call: &str, quick: &str, slow: &str) -> Result<(), Trouble> {
-    println!(rt; "  {call:<26} | {quick:<37} | {slow}")?;
+// A call, and what both consoles answered.
+fn print_row(rt: &HostRuntime, call: &str, quick: Reply, slow: Reply) -> Result<(), Trouble> {
+    let one = quick.to_string(rt.alloc())?;
+    println!(rt; "  {call:<26} | {:<37} | {slow}", one.as_str())?;
     Ok(())
 }
 
@@ -146,18 +114,24 @@ pub fn run(rt: &HostRuntime) -> Result<(), Trouble> {
     };
     let heard = rehearse(heap, &mut quick, &mut slow, on_array, on_chip, &CALLS)?;
     println!(rt; "\nThe same calls on a console over an array and on one over a slow chip.")?;
-    print_row(rt, "call", "array", "chip")?;
-    let one = opening_text(heap, heard.quick.opening)?;
-    let two = opening_text(heap, heard.slow.opening)?;
-    print_row(rt, "open", one.as_str(), two.as_str())?;
+    println!(rt; "  {:<26} | {:<37} | chip", "call", "array")?;
+    print_row(
+        rt,
+        "open",
+        Reply::Opened(heard.quick.opening.reply),
+        Reply::Opened(heard.slow.opening.reply),
+    )?;
     for (call, (quick, slow)) in CALLS
         .iter()
         .zip(heard.quick.lines.iter().zip(heard.slow.lines.iter()))
     {
         let name = call_text(heap, *call)?;
-        let one = reply_text(heap, quick.reply)?;
-        let two = reply_text(heap, slow.reply)?;
-        print_row(rt, name.as_str(), one.as_str(), two.as_str())?;
+        print_row(
+            rt,
+            name.as_str(),
+            Reply::Called(quick.reply),
+            Reply::Called(slow.reply),
+        )?;
     }
     Ok(())
 }

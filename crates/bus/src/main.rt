@@ -3,26 +3,12 @@
 
 mod unserved;
 
-use chip::{Chip, Setup};
-use naming::{Wrong, ended, take_setup};
+use chip::Chip;
 use std::io::{BufRead, BufReader};
 use std::process::ExitCode;
 use unserved::Unserved;
-use words::{is_printable, next_word};
+use wire::{chip_named, serve};
 use workbench::{Trouble, blank_chip};
-
-// The chip that the first line names: `chip`, its geometry, its times and its masks.
-fn setup_of(line: &[u8]) -> Result<Setup, Wrong> {
-    if !is_printable(line) {
-        return Err(Wrong::NotPrintable);
-    }
-    let (word, rest) = next_word(line).ok_or(Wrong::NoPiece)?;
-    if word != b"chip".as_slice() {
-        return Err(Wrong::UnknownWord);
-    }
-    let (setup, rest) = take_setup(rest)?;
-    ended(setup, rest)
-}
 
 // A line without its end.
 fn line_of(text: &[u8]) -> &[u8] {
@@ -31,7 +17,7 @@ fn line_of(text: &[u8]) -> &[u8] {
 
 // A fresh chip, FFh throughout.
 fn chip_of(rt: &HostRuntime, line: &[u8]) -> Result<Chip, Unserved> {
-    match blank_chip(rt.alloc(), setup_of(line)?) {
+    match blank_chip(rt.alloc(), chip_named(line)?) {
         Ok(chip) => Ok(chip),
         Err(Trouble::Chip(fault)) => Err(Unserved::Refused(fault)),
         Err(_) => Err(Unserved::Memory),
@@ -48,7 +34,7 @@ fn run(rt: &HostRuntime) -> Result<(), Unserved> {
         if reader.read_until(b'\n', &mut line)? == 0 {
             break;
         }
-        let reply = wire::serve(&mut chip, line_of(line.as_slice()));
+        let reply = serve(&mut chip, line_of(line.as_slice()));
         println!(rt; "{reply}")?;
     }
     Ok(())

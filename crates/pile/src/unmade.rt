@@ -3,7 +3,6 @@ ghost use Rattle.pile.specs.declared.unmade.Unmade.TheVariants.{Memory};
 
 use part::PartFault;
 use std::alloc::AllocError;
-use std::fmt;
 
 /// Why a pile was not made.
 #[derive(Clone, Copy, Debug, PartialEq, Eq)]
@@ -15,20 +14,6 @@ pub enum Unmade {
     /// There was no memory for a piece's cells.
     Memory,
 }
-
-impl fmt::Display for Unmade {
-    fn fmt<W: fmt::Write>(&self, f: &mut fmt::Formatter<W>) -> fmt::Result {
-        match self {
-            Unmade::TooMany => write!(f, "more than four pieces"),
-            Unmade::Refused { piece, fault } => {
-                write!(f, "piece {piece} is refused with {}", fault.cause.number())
-            }
-            Unmade::Memory => write!(f, "out of memory"),
-        }
-    }
-}
-
-impl std::error::Error for Unmade {}
 
 impl From<AllocError> for Unmade {
     ghost from_gives = { λ _ e. e ≡ Memory };

@@ -1,6 +1,6 @@
 // The account as it is printed.
 use crate::stopped::Stopped;
-use script::{Reply, Step, push_line};
+use script::{Reply, Step, push_line, push_total};
 use std::alloc::Global;
 use std::io::{BufWriter, Write};
 
@@ -41,12 +41,9 @@ impl<'a, W: Write + Drop> Sheet<'a, W> {
 
     /// The last line: how many calls there were, and how many were answered the same.
     pub fn end(&mut self) -> Result<(), Stopped> {
-        let (calls, same) = (self.calls, self.same);
-        let different = calls.saturating_sub(same);
-        writeln!(
-            self.out,
-            "{calls} calls, {same} same, {different} different"
-        )?;
+        self.line.clear();
+        push_total(self.heap, &mut self.line, self.calls, self.same)?;
+        self.out.write_all(self.line.as_slice())?;
         Ok(self.out.flush()?)
     }
 }

@@ -1,4 +1,3 @@
-use naming::Wrong;
 use part::PartFault;
 use script::{Complaint, Unread};
 use std::alloc::{AllocError, AllocFailed};
@@ -8,7 +7,7 @@ use std::{fmt, io};
 #[derive(Debug, Drop)]
 pub enum Stopped {
     /// What is wrong with a line of the script.
-    Unread { line: usize, what: Wrong },
+    Unread(Complaint),
     /// A part whose numbers are outside its limits, and the line that names it.
     Refused { line: usize, fault: PartFault },
     /// There was no memory for the part that this line names.
@@ -22,7 +21,7 @@ pub enum Stopped {
 impl fmt::Display for Stopped {
     fn fmt<W: fmt::Write>(&self, f: &mut fmt::Formatter<W>) -> fmt::Result {
         match self {
-            Stopped::Unread { line, what } => write!(f, "line {line}: {what}"),
+            Stopped::Unread(complaint) => write!(f, "{complaint}"),
             Stopped::Refused { line, fault } => {
                 let number = fault.cause.number();
                 write!(
@@ -41,7 +40,7 @@ impl From<Unread> for Stopped {
     fn from(unread: Unread) -> Stopped {
         match unread {
             Unread::Memory => Stopped::Memory,
-            Unread::Complaint(Complaint { line, what }) => Stopped::Unread { line, what },
+            Unread::Complaint(complaint) => Stopped::Unread(complaint),
         }
     }
 }

@@ -1,7 +1,7 @@
 // A line of an account.
-ghost use Rattle.std.specs.Prelude.{◌≡◌, ◌++◌, ◌↔◌, IsTrue, IfOk};
+ghost use Rattle.std.specs.Prelude.{◌≡◌, ◌++◌, ◌↔◌, IsTrue, IfOk, OnOk};
 ghost use Rattle.words.specs.Lines.{uncommented, words_of};
-ghost use Rattle.script.specs.Account.{line_text};
+ghost use Rattle.script.specs.Account.{line_text, total_text};
 ghost use Rattle.script.specs.Alike.{SameReply};
 
 use crate::answers::Verdict;
@@ -32,4 +32,13 @@ pub fn push_line(
     write!(answers, ": {quick} | {slow} | {verdict}\n")?;
     out.extend_from_slice(answers.as_bytes())?;
     Ok(same)
+}
+
+/// Writes the last line of an account: how many calls there were, and how many of them were answered the same.
+pub fn push_total(heap: Global, out: &mut Vec<u8>, calls: u64, same: u64) -> Result<(), AllocError>
+    ensures { OnOk result (out.new.items ≡ out.old.items ++ total_text calls same) }
+{
+    let different = calls.saturating_sub(same);
+    let total = format!(in heap; "{calls} calls, {same} same, {different} different\n")?;
+    out.extend_from_slice(total.as_bytes())
 }

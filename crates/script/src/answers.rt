@@ -84,9 +84,9 @@ impl fmt::Display for QuietReply {
     }
 }
 
-/// Whether the two consoles answered alike, the microseconds aside.
+// Whether the two consoles answered alike, the microseconds aside.
 #[derive(Clone, Copy)]
-pub struct Verdict(pub bool);
+pub(crate) struct Verdict(pub(crate) bool);
 
 impl fmt::Display for Verdict {
     ghost output = { λ x. Some (verdict_text x.0) };

@@ -12,7 +12,7 @@ mod replies;
 mod script;
 mod unread;
 
-pub use account::push_line;
+pub use account::{push_line, push_total};
 pub use draft::read;
 pub use entry::{Entry, Pieces, Request};
 pub use reading::parse;

@@ -5,4 +5,4 @@ mod lines;
 mod numbers;
 
 pub use lines::{is_printable, next_word, place_of, push_words, uncommented};
-pub use numbers::{number, small_number};
+pub use numbers::number;

@@ -60,13 +60,3 @@ pub fn number(word: &[u8], most: u64) -> Option<u64>
         None => numeral(word, 10, most),
     }
 }
-
-/// The same, of the numbers that 32 bits hold.
-pub fn small_number(word: &[u8]) -> Option<u32>
-    ensures { result ≡ number_of u32.MAX word.now }
-{
-    match number(word, u32::MAX as u64) {
-        None => None,
-        Some(n) => Some(n as u32),
-    }
-}

@@ -14,7 +14,7 @@ pub enum Trouble {
     Chip(ChipFault),
     /// A part refused a call.
     Part(PartFault),
-    // A console refused a call.
+    /// A console refused a call.
     Console(ConsoleFault),
     /// There was no memory for a chip's cells.
     Memory,
