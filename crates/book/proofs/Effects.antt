@@ -15,38 +15,15 @@ use Rattle.book.specs.Pairs.{Pair, book_size}
 pub use Rattle.book.specs.Laws.{LineDone, WornRefused, CopyDone}
 use Rattle.book.specs.Laws.{AsWorn}
 use Rattle.book.proofs.Seats.{Seated, SameOutside, SameInside, StopsFit}
-use Rattle.book.proofs.Stretches as stretches
+-- what is read depends on the cells of the stretch alone
+pub use Rattle.book.proofs.Stretches.{blank_same}
 use Rattle.book.proofs.Stretches.{blank_from, blank_part}
-use Rattle.book.proofs.Showing as showing
+pub use Rattle.book.proofs.Showing.{shown_same, page_same, pages_same, pages_at, pages_from, shown_fits}
 use Rattle.book.proofs.Showing.{line_in, BlankPage, blank_page}
 use Rattle.book.proofs.Ground.{Lies, current_lies, spare_lies, lies_apart}
 use Rattle.book.proofs.Laying.{Ready, WornOut, granted, worn_out, worn_cause}
 use Rattle.book.proofs.Lines.{Added, added, some_line}
 use Rattle.book.proofs.Changing.{head_leaves, head_rest, BookMade, book_made, some_steps}
-
--- What is read depends on the cells of the stretch alone.
-pub blank_same : (xs ys : List ℕ) (from k : ℕ) → SameInside from k xs ys → blank ys from k ≡ blank xs from k
-blank_same xs ys from k s = stretches.blank_same xs ys from k s
-
-pub shown_same : (xs ys : List ℕ) (at : ℕ) → SameInside at 64 xs ys → shown ys at ≡ shown xs at
-shown_same xs ys at s = showing.shown_same xs ys at s
-
-pub page_same : (xs ys : List ℕ) (at : ℕ) → SameInside at 64 xs ys → readable_page ys at ≡ readable_page xs at
-page_same xs ys at s = showing.page_same xs ys at s
-
-pub pages_same : (xs ys : List ℕ) (start n : ℕ) → SameInside start (book_size n) xs ys → readable_pages ys start n ≡ readable_pages xs start n
-pages_same xs ys start n s = showing.pages_same xs ys start n s
-
--- each page of a readable book
-pub pages_at : (xs : List ℕ) (start n : ℕ) → readable_pages xs start n ≡ true → (q : ℕ) → 1 ≤ q → q ≤ n → readable_page xs (page_at start q) ≡ true
-pages_at xs start n t q l h = showing.pages_at xs start n t q l h
-
-pub pages_from : (xs : List ℕ) (start n : ℕ) → ((q : ℕ) → 1 ≤ q → q ≤ n → readable_page xs (page_at start q) ≡ true) → readable_pages xs start n ≡ true
-pages_from xs start n f = showing.pages_from xs start n f
-
--- a readable page shows at most 63 stops
-pub shown_fits : (xs : List ℕ) (at : ℕ) → readable_page xs at ≡ true → StopsFit (shown xs at)
-shown_fits xs at t = showing.shown_fits xs at t
 
 -- A page outside the erasure's reach is read as it stands.
 module _ (m : Meaning) (from k b : ℕ) (lies : Lies m from k b) (h : hides m.erasure b ≡ false) where
@@ -248,12 +225,6 @@ erased_current m b s a l h =
     ∙ cond-false _ _ _ (ne_eqb _ _ (λ e. s.distinct (sym (lies.at_block a l h) ∙ e))))
 
 -- The two books do not overlap.
-pub books_apart : (m : Meaning) (b : Pair) → Seated m b → (xs ys : List ℕ)
-    → SameOutside b.spare.start (book_size b.positions) xs ys → SameInside b.current.start (book_size b.positions) xs ys
-books_apart m b s xs ys k =
-    lies_apart m b.spare.start b.current.start (book_size b.positions) b.spare.block b.current.block
-    (spare_lies m b s) (current_lies m b s) (λ e. s.distinct (sym e)) xs ys k
-
 pub books_apart_back : (m : Meaning) (b : Pair) → Seated m b → (xs ys : List ℕ)
     → SameOutside b.current.start (book_size b.positions) xs ys → SameInside b.spare.start (book_size b.positions) xs ys
 books_apart_back m b s xs ys k =

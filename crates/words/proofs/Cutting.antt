@@ -23,10 +23,6 @@ abbrev pub Ends : List ℕ → Type 0
 Ends [] = Unit {0}
 Ends (b ∷ bs) = b ≡ 32
 
--- a space at the front belongs to no word
-pub space_first : (bytes : List ℕ) → words_of (32 ∷ bytes) ≡ words_of bytes
-space_first bytes = refl
-
 -- what was cut off is a word, unless it is empty
 kept : (b : ℕ) (bs : List ℕ) (pieces : List (List ℕ)) (line : List ℕ) → slice_split (λ b. eqb b 32) line ≡ (b ∷ bs) ∷ pieces
     → words_of line ≡ (b ∷ bs) ∷ filter (λ piece. not (is_empty piece)) pieces
