@@ -1,6 +1,6 @@
 // The watching of status bits.
 use crate::steps::Bench;
-use chip::ChipFault;
+use fault::ChipFault;
 use std::fmt;
 use workbench::Trouble;
 

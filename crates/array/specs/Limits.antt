@@ -1,7 +1,7 @@
 -- What an array can be made of.
 use Rattle.std.specs.Prelude.{ℕ, ◌*◌, Bool, true, cond, ◌&&◌, Ok, Err, Result, ◌==◌, nat_le, nat_lt}
-use Rattle.refusal.specs.declared.Cause.TheVariants.{UnfitMaking}
-use Rattle.part.specs.declared.fault.PartFault.{PartFault}
+use Rattle.fault.specs.declared.cause.Cause.TheVariants.{UnfitMaking}
+use Rattle.fault.specs.declared.faults.PartFault.{PartFault}
 use Rattle.part.specs.declared.answers.Standing.{Standing}
 use Rattle.array.specs.declared.array.Layout.{Layout}
 use Rattle.part.specs.declared.answers.Standing.TheVariants.{Idle, Running, Suspended}

@@ -7,7 +7,8 @@ ghost use Rattle.array.specs.Facts;
 use crate::array::Array;
 use chip::short_enough;
 use geometry::Block;
-use part::{Part, PartFault, Progress, Shape, Standing, Turn, granted};
+use fault::PartFault;
+use part::{Part, Progress, Shape, Standing, Turn, granted};
 
 // hold and go_on mirror one another, here and in the driver; one function for both would take what to do as a closure, and be no plainer.
 impl Part for Array {

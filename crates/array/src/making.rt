@@ -6,8 +6,8 @@ ghost use Rattle.array.specs.Limits.{fit, checked};
 ghost use Rattle.array.specs.Means.{equal_blocks, means, made};
 
 use crate::array::{Array, Layout};
-use part::{PartFault, Standing};
-use refusal::Cause;
+use fault::{Cause, PartFault};
+use part::Standing;
 
 impl Layout {
     // Whether an array can be made of it and so many bytes of memory.

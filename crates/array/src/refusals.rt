@@ -5,7 +5,7 @@ ghost use Rattle.part.specs.Calls.{peek_no, burn_no};
 ghost use Rattle.array.specs.Means.{means};
 
 use crate::array::Array;
-use refusal::Cause;
+use fault::Cause;
 
 impl Array {
     pub(crate) fn size(&self) -> u32

@@ -3,7 +3,7 @@ use Rattle.std.proofs.Common.{◌≡◌, ℕ, zero, suc, ◌+◌, ◌*◌, ◌�
 use lib.Count.{count_trailing_zeros}
 use Rattle.std.proofs.lemmas.List.{length-set, get_or-set_same}
 use Rattle.std.proofs.lemmas.Bool.{cases_lt, and_from}
-use Rattle.part.specs.declared.fault.PartFault.{PartFault}
+use Rattle.fault.specs.declared.faults.PartFault.{PartFault}
 use Rattle.book.specs.Pages.{page_at, shown, blank, readable_page, readable_book}
 use Rattle.book.specs.Burning.{Step, burn, line_added, page_copied, pages_copied, book_copied}
 use Rattle.book.specs.Pairs.{book_size}

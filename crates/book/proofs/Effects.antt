@@ -2,9 +2,9 @@
 use Rattle.std.proofs.Common.{◌≡◌, ℕ, zero, suc, ◌+◌, ◌<◌, ◌≤◌, Bool, true, false, cond, eqb, List, length, get_or, set, None, Ok, Option, Result, sym, refl, ap, ◌∙◌, ap₂, inl, inr, arith}
 use Rattle.std.proofs.lemmas.List.{get_or-set_same}
 use Rattle.std.proofs.lemmas.Bool.{and_from, eq-eqb, ne_eqb, lt-leb, cases_lt, cond-true, cond-false, cond_both}
-use Rattle.refusal.specs.declared.Cause.{Cause}
+use Rattle.fault.specs.declared.cause.Cause.{Cause}
 use Rattle.geometry.proofs.Wiping.{wiped_at}
-use Rattle.part.specs.declared.fault.PartFault.{PartFault}
+use Rattle.fault.specs.declared.faults.PartFault.{PartFault}
 use Rattle.part.specs.Meaning.{Erasure, Meaning, size, cell, worn}
 use Rattle.part.specs.Calls.{hides, peek_no, erased}
 use Rattle.book.specs.declared.page.Page.{Page}

@@ -1,7 +1,7 @@
 -- The laws of the books.
 use Rattle.std.proofs.Common.{◌≡◌, ℕ, zero, suc, ◌+◌, ◌^◌, ◌<◌, ◌≤◌, Bool, true, false, ◌&&◌, eqb, List, get_or, set, Some, None, Ok, Option, sym, refl, ap, ◌∙◌, subst, inl, inr, arith}
 use Rattle.std.proofs.lemmas.Bool.{cases_lt, cases_Bool, cond-true, cond-false, eqb-false, ne_eqb}
-use Rattle.refusal.specs.declared.Cause.{Cause}
+use Rattle.fault.specs.declared.cause.Cause.{Cause}
 use Rattle.part.specs.Meaning.{Meaning, with_cells}
 use Rattle.part.specs.Calls.{Took, BurntBy}
 use Rattle.book.specs.Pages.{used, is_line, spelled, registration, shown, blank}

@@ -1,7 +1,7 @@
 -- Reading byte by byte.
 use Rattle.std.proofs.Common.{◌≡◌, ℕ, zero, suc, ◌+◌, ◌-◌, ◌*◌, ◌^◌, ◌<◌, ◌≤◌, Bool, true, false, cond, List, get_or, Some, None, Ok, Err, Option, sym, refl, ap, ◌∙◌, subst, add-one, arith, pow_mono, pow-add}
-use Rattle.refusal.specs.declared.Cause.{Cause}
-use Rattle.part.specs.declared.fault.PartFault.{PartFault}
+use Rattle.fault.specs.declared.cause.Cause.{Cause}
+use Rattle.fault.specs.declared.faults.PartFault.{PartFault}
 use Rattle.part.specs.Meaning.{Meaning, cell}
 use Rattle.part.specs.Calls.{answer, peek_no}
 use Rattle.book.specs.Pages.{line_at, used, is_line, registration, spelled, page_of}

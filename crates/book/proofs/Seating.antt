@@ -3,7 +3,7 @@ use Rattle.std.proofs.Common.{◌≡◌, ℕ, zero, suc, ◌+◌, ◌-◌, ◌/�
 use Rattle.std.proofs.lemmas.Bool.{eq-eqb, ne_eqb, ltb-true, lt-leb, leb-true, leb-false, le-leb, eqb-true, eqb-false, not-false, and_parts, or_parts, or_left, or_right, cond-false, cases_lt}
 use Rattle.geometry.specs.declared.block.Block.{Block}
 use Rattle.geometry.specs.Blocks.{total, start_of}
-use Rattle.part.specs.declared.fault.PartFault.{PartFault}
+use Rattle.fault.specs.declared.faults.PartFault.{PartFault}
 use Rattle.part.specs.declared.answers.Standing.TheVariants.{Running, Suspended}
 use Rattle.part.specs.Meaning.{Erasure, Meaning, size, count, guarded, standing_of, Lawful}
 use Rattle.part.specs.Standings.{stood}

@@ -2,11 +2,11 @@
 use Rattle.std.proofs.Common.{◌≡◌, ℕ, zero, suc, ◌+◌, ◌<◌, ◌≤◌, Bool, true, false, cond, eqb, leb, List, [], ◌∷◌, ◌++◌, length, get_or, set, Some, None, Ok, Err, Option, Result, sym, refl, ap, ◌∙◌, subst, inl, inr, arith}
 use Rattle.std.proofs.lemmas.List.{length-set, get_or-set_other}
 use Rattle.std.proofs.lemmas.Bool.{leb-true, or_cases}
-use Rattle.refusal.specs.declared.Cause.{Cause}
-use Rattle.refusal.specs.declared.Cause.TheVariants.{AddressOutside, ErasureInTheWay}
-use Rattle.refusal.specs.Numbers.{number_of}
+use Rattle.fault.specs.declared.cause.Cause.{Cause}
+use Rattle.fault.specs.declared.cause.Cause.TheVariants.{AddressOutside, ErasureInTheWay}
+use Rattle.fault.specs.Causes.{number_of}
 use Rattle.geometry.specs.Blocks.{block_of}
-use Rattle.part.specs.declared.fault.PartFault.{PartFault}
+use Rattle.fault.specs.declared.faults.PartFault.{PartFault}
 use Rattle.part.specs.Meaning.{Erasure, Meaning, size, cell, with_cells}
 use Rattle.part.specs.Calls.{peek_no, hides, burn_no, BurntBy, Refused, Took}
 use Rattle.book.specs.declared.page.Page.{Page}

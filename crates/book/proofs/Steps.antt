@@ -1,7 +1,7 @@
 -- Steps one after the other.
 use Rattle.std.proofs.Common.{◌≡◌, ℕ, zero, suc, ◌+◌, ◌-◌, ◌<◌, List, [], ◌∷◌, ◌++◌, Some, None, Ok, Err, Option, Result, sym, refl, ap, subst, add-one, arith}
-use Rattle.refusal.specs.declared.Cause.{Cause}
-use Rattle.part.specs.declared.fault.PartFault.{PartFault}
+use Rattle.fault.specs.declared.cause.Cause.{Cause}
+use Rattle.fault.specs.declared.faults.PartFault.{PartFault}
 use Rattle.part.specs.Meaning.{Meaning}
 use Rattle.part.specs.Calls.{answer, burn_no, Burnt}
 use Rattle.book.specs.Pages.{line_at, used, marked, byte_of}

@@ -1,8 +1,8 @@
 -- Writing to a part is a list of steps, made one after the other up to the first that is refused. Nothing but the cells and
 -- the clock changes.
 use Rattle.std.specs.Prelude.{◌≡◌, ℕ, zero, suc, ◌+◌, cond, List, [], ◌∷◌, ◌++◌, Some, None, Ok, Err, Option, Result, ◌==◌, slice_set}
-use Rattle.refusal.specs.declared.Cause.{Cause}
-use Rattle.part.specs.declared.fault.PartFault.{PartFault}
+use Rattle.fault.specs.declared.cause.Cause.{Cause}
+use Rattle.fault.specs.declared.faults.PartFault.{PartFault}
 use Rattle.part.specs.Meaning.{Meaning}
 use Rattle.part.specs.Calls.{burn_no, Burnt}
 use Rattle.book.specs.declared.page.Page.{Page}

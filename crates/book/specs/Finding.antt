@@ -1,8 +1,8 @@
 -- What open looks for in two blocks of a part, and what it does with what it finds.
 use Rattle.std.specs.Prelude.{◌≡◌, ℕ, ◌-◌, ◌/◌, ◌%◌, Bool, true, false, cond, not, ◌&&◌, ◌||◌, List, Some, None, Ok, Err, Option, Result, ◌==◌, nat_le, slice_index}
-use Rattle.refusal.specs.declared.Cause.TheVariants.{NoSuchBlock, ErasureInTheWay, Guarded, UnfitBooks, NoReadableBook}
+use Rattle.fault.specs.declared.cause.Cause.TheVariants.{NoSuchBlock, ErasureInTheWay, Guarded, UnfitBooks, NoReadableBook}
 use Rattle.geometry.specs.Blocks.{start_of}
-use Rattle.part.specs.declared.fault.PartFault.{PartFault}
+use Rattle.fault.specs.declared.faults.PartFault.{PartFault}
 use Rattle.part.specs.Meaning.{Meaning, count, guarded}
 use Rattle.part.specs.Calls.{answer, stands, burn_no, Burnt, begin_no, Begun}
 use Rattle.book.specs.declared.finding.Finding.{Finding}

@@ -1,8 +1,8 @@
 -- What holds of the books whatever is stored in them, in the words of the workshop. The calls' contracts name these laws; they
 -- speak of the definitions that the same contracts use.
 use Rattle.std.specs.Prelude.{◌≡◌, ℕ, ◌+◌, ◌<◌, ◌≤◌, true, false, cond, List, Some, None, Ok, Err, Option, Result, ◌==◌, slice_index}
-use Rattle.refusal.specs.declared.Cause.TheVariants.{Worn}
-use Rattle.part.specs.declared.fault.PartFault.{PartFault}
+use Rattle.fault.specs.declared.cause.Cause.TheVariants.{Worn}
+use Rattle.fault.specs.declared.faults.PartFault.{PartFault}
 use Rattle.part.specs.Meaning.{Meaning, cell, worn, ticked}
 use Rattle.part.specs.Calls.{hides}
 use Rattle.book.specs.Pages.{page_at, line_at, used, is_line, spelled, shown, page_of, blank, readable_page, readable_pages, readable_book}

@@ -1,7 +1,7 @@
 -- Reading a page of a part: what it shows, or the first refusal among the bytes that have to be peeked.
 use Rattle.std.specs.Prelude.{ℕ, zero, suc, ◌+◌, cond, Some, None, Ok, Err, Option, Result}
-use Rattle.refusal.specs.declared.Cause.{Cause}
-use Rattle.part.specs.declared.fault.PartFault.{PartFault}
+use Rattle.fault.specs.declared.cause.Cause.{Cause}
+use Rattle.fault.specs.declared.faults.PartFault.{PartFault}
 use Rattle.part.specs.Meaning.{Meaning, cell}
 use Rattle.part.specs.Calls.{peek_no}
 use Rattle.book.specs.declared.page.Page.{Page}

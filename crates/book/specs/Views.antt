@@ -1,6 +1,6 @@
 -- The pair of books that a program holds, as the definitions see it.
 use Rattle.std.specs.Prelude.{Ok, Err, Result}
-use Rattle.part.specs.declared.fault.PartFault.{PartFault}
+use Rattle.fault.specs.declared.faults.PartFault.{PartFault}
 use Rattle.book.specs.declared.books.Books.{Books}
 use Rattle.book.specs.Pairs.{Pair}
 

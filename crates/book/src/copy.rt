@@ -9,7 +9,8 @@ use crate::books::Books;
 use crate::page::LINE;
 use crate::read::page;
 use crate::write::burn_line;
-use part::{Part, PartFault};
+use fault::PartFault;
+use part::Part;
 
 // A tally with one line used.
 const ONE_LINE: u8 = 0xFE;

@@ -15,8 +15,8 @@ use crate::finding::Finding;
 use crate::page::PAGE;
 use crate::survey::is_blank;
 use geometry::Block;
-use part::{Part, PartFault};
-use refusal::Cause;
+use fault::{Cause, PartFault};
+use part::Part;
 
 // The fewest bytes that a book has: a head, and one position.
 const SMALLEST: u32 = 128;

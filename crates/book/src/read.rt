@@ -7,7 +7,8 @@ ghost use Rattle.book.specs.Laws.{ReadLaws};
 
 use crate::books::Books;
 use crate::page::{EMPTY, LAST_LINE, LINE, Page};
-use part::{Part, PartFault};
+use fault::PartFault;
+use part::Part;
 
 // The number in the eight bytes of a line, the highest byte first.
 pub(crate) fn line<P: Part>(part: &mut P, at: u32) -> Result<u64, PartFault>

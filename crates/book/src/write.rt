@@ -7,7 +7,8 @@ ghost use Rattle.book.specs.Laws.{WriteLaws};
 
 use crate::books::Books;
 use crate::page::LINE;
-use part::{Part, PartFault};
+use fault::PartFault;
+use part::Part;
 
 // Byte i of the eight that spell a number, the highest first.
 fn byte_of(n: u64, i: u32) -> u8

@@ -1,4 +1,4 @@
-use chip::ChipFault;
+use fault::ChipFault;
 use naming::Wrong;
 use std::alloc::AllocError;
 use std::{fmt, io};

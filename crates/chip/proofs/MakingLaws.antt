@@ -1,9 +1,9 @@
 -- What the checking call and the making of a chip say of each other.
 use Rattle.std.proofs.Common.{◌≡◌, ℕ, true, false, List, length, Ok, Err}
 use Rattle.std.proofs.lemmas.Bool.{cond-true}
-use Rattle.refusal.specs.declared.Cause.TheVariants.{UnfitMaking}
-use Rattle.refusal.proofs.Granted.{granted, denied}
-use Rattle.chip.specs.declared.fault.ChipFault.{ChipFault}
+use Rattle.fault.specs.declared.cause.Cause.TheVariants.{UnfitMaking}
+use Rattle.fault.proofs.Granted.{granted, denied}
+use Rattle.fault.specs.declared.faults.ChipFault.{ChipFault}
 use Rattle.chip.specs.declared.setup.Setup.{Setup}
 use Rattle.chip.specs.Setups.{fit}
 use Rattle.chip.specs.Making.{checked, fresh, made}

@@ -1,7 +1,7 @@
 -- Worked examples on the bench chip, which starts as FFh throughout, with 16 microseconds to program a byte, 1,000 to erase a
 -- block and 15 to suspend. Block 1 begins at 400h and block 2 at 600h.
 use Rattle.std.specs.Prelude.{◌≡◌, ℕ, List, [], ◌∷◌, ◌++◌, replicate, Ok, Err, Result}
-use Rattle.chip.specs.declared.fault.ChipFault.{ChipFault}
+use Rattle.fault.specs.declared.faults.ChipFault.{ChipFault}
 use Rattle.chip.specs.Flash.{Flash}
 use Rattle.chip.specs.Making.{made}
 use Rattle.chip.specs.Writes.{written}

@@ -1,7 +1,7 @@
 -- The making of a chip.
 use Rattle.std.specs.Prelude.{ℕ, cond, List, [], length, Ok, Err, Result}
-use Rattle.refusal.specs.declared.Cause.TheVariants.{UnfitMaking}
-use Rattle.chip.specs.declared.fault.ChipFault.{ChipFault}
+use Rattle.fault.specs.declared.cause.Cause.TheVariants.{UnfitMaking}
+use Rattle.fault.specs.declared.faults.ChipFault.{ChipFault}
 use Rattle.chip.specs.declared.setup.Setup.{Setup}
 use Rattle.chip.specs.Setups.{fit, no_chip}
 use Rattle.chip.specs.Flash.{Flash}

@@ -1,7 +1,7 @@
 -- The read cycle. A busy or failed chip answers with its status, and each such read flips the toggle bit.
 use Rattle.std.specs.Prelude.{ℕ, ◌+◌, Bool, true, false, cond, not, Result, ◌==◌, bit_and, nat_lt}
 use Rattle.geometry.specs.Plans.{plan_of}
-use Rattle.chip.specs.declared.fault.ChipFault.{ChipFault}
+use Rattle.fault.specs.declared.faults.ChipFault.{ChipFault}
 use Rattle.chip.specs.declared.state.Mode.TheVariants.{Read, Id}
 use Rattle.chip.specs.declared.state.Phase.{Phase}
 use Rattle.chip.specs.declared.state.Phase.TheVariants.{Window, Erasing as Begun}

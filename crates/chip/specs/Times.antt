@@ -1,8 +1,8 @@
 -- Time. Letting n microseconds pass is n steps of one.
 use Rattle.std.specs.Prelude.{ℕ, zero, suc, ◌+◌, ◌-◌, ◌*◌, ◌%◌, max, Bool, cond, List, Some, None, Ok, Err, Option, Result, ◌==◌, bit_and, count_ones, nat_le, slice_set}
-use Rattle.refusal.specs.declared.Cause.TheVariants.{TimeTooLong}
+use Rattle.fault.specs.declared.cause.Cause.TheVariants.{TimeTooLong}
 use Rattle.geometry.specs.Blocks.{filled}
-use Rattle.chip.specs.declared.fault.ChipFault.{ChipFault}
+use Rattle.fault.specs.declared.faults.ChipFault.{ChipFault}
 use Rattle.chip.specs.declared.state.Phase.{Phase}
 use Rattle.chip.specs.declared.state.Phase.TheVariants.{Window, Erasing as Begun}
 use Rattle.chip.specs.declared.state.Program.{Program}

@@ -1,8 +1,8 @@
 -- The write cycle. It changes what the chip is doing, and no cell: a cell changes when an operation ends.
 use Rattle.std.specs.Prelude.{ℕ, ◌%◌, ◌^◌, Bool, false, cond, not, ◌||◌, Ok, Err, Result, ◌==◌, bit_and, bit_or}
-use Rattle.refusal.specs.declared.Cause.TheVariants.{AddressOutside}
+use Rattle.fault.specs.declared.cause.Cause.TheVariants.{AddressOutside}
 use Rattle.geometry.specs.Blocks.{block_of}
-use Rattle.chip.specs.declared.fault.ChipFault.{ChipFault}
+use Rattle.fault.specs.declared.faults.ChipFault.{ChipFault}
 use Rattle.chip.specs.declared.state.Mode.{Mode}
 use Rattle.chip.specs.declared.state.Mode.TheVariants.{Read}
 use Rattle.chip.specs.declared.state.Place.TheVariants.{Start}

@@ -7,8 +7,7 @@ ghost use Rattle.chip.specs.Times.{waited, after};
 ghost use Rattle.chip.specs.Laws.{WriteLaws, ReadLaws, PassLaws};
 
 use crate::chip::Chip;
-use crate::fault::ChipFault;
-use refusal::Cause;
+use fault::{Cause, ChipFault};
 
 /// The longest time, in microseconds, that may pass in one call.
 pub const LONGEST: u32 = 1_000_000_000;

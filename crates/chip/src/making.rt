@@ -10,11 +10,10 @@ ghost use Rattle.chip.specs.Examples.{WorkedExamples};
 
 use crate::blocks::ALL;
 use crate::chip::Chip;
-use crate::fault::ChipFault;
+use fault::{Cause, ChipFault};
 use crate::setup::{LONGEST_ERASE, LONGEST_PROGRAM, LONGEST_SUSPENSION, Setup};
 use crate::time::READ_MODE;
 use geometry::Block;
-use refusal::Cause;
 
 const NO_CHIP: Setup = Setup {
     kind: geometry::DEAD,

@@ -1,12 +1,12 @@
 -- The console's calls, put together from what their parts ensure.
 use Rattle.std.proofs.Common.{◌≡◌, ℕ, ◌-◌, Bool, true, false, cond, ◌&&◌, ◌||◌, leb, is_some, Some, None, Ok, Err, Option, Result, sym, refl, ap, ◌∙◌, subst, arith}
 use Rattle.std.proofs.lemmas.Bool.{cond-true, cond-false, true≢false}
-use Rattle.refusal.specs.declared.Cause.{Cause}
-use Rattle.refusal.specs.declared.Cause.TheVariants.{OutOfTurn, TimeTooLong}
-use Rattle.part.specs.declared.fault.PartFault.{PartFault}
+use Rattle.fault.specs.declared.cause.Cause.{Cause}
+use Rattle.fault.specs.declared.cause.Cause.TheVariants.{OutOfTurn, TimeTooLong}
+use Rattle.fault.specs.declared.faults.PartFault.{PartFault}
 use Rattle.part.specs.declared.answers.Progress.{Progress}
 use Rattle.part.specs.Meaning.{Meaning}
-use Rattle.part.specs.Calls.{longest, answer, pass_no, progress, after_pass}
+use Rattle.part.specs.Calls.{longest, answer, time_no, progress, after_pass}
 use Rattle.book.specs.declared.books.Books.{Books}
 use Rattle.book.specs.declared.page.Page.{Page}
 use Rattle.book.specs.Pages.{page_at}
@@ -15,7 +15,7 @@ use Rattle.book.specs.Burning.{stops_of}
 use Rattle.book.specs.Pairs.{Pair, spoilt_if}
 use Rattle.book.specs.Finding.{Opened}
 use Rattle.book.specs.Views.{pair_of, pair_in}
-use Rattle.console.specs.declared.fault.ConsoleFault.{ConsoleFault}
+use Rattle.fault.specs.declared.faults.ConsoleFault.{ConsoleFault}
 use Rattle.console.specs.declared.spot.Spot.{Spot}
 use Rattle.console.specs.declared.way.Way.{Way}
 use Rattle.console.specs.declared.answers.Recalled.{Recalled}
@@ -178,7 +178,7 @@ pass_not true n p f e = let z : ◌≡◌ {A = ℕ} 0 1 = cc in absurd (omega ar
 pass_not false n p f e = (refl, cc)
 
 pub waits_refused : (m k : Meaning) (o : Option Books) (b : Books) (n : ℕ) (f : PartFault) (r : Result ℕ ConsoleFault) → o ≡ Some b
-    → answer (pass_no n) n (progress m n m.erasure) ≡ Err f → k ≡ after_pass m n → r ≡ Err (raised f) → Waits (desk m o) n r (desk k o)
+    → answer (time_no n) n (progress m n m.erasure) ≡ Err f → k ≡ after_pass m n → r ≡ Err (raised f) → Waits (desk m o) n r (desk k o)
 unfolding Waits
 waits_refused m k o b n f r e a s d =
     let p = pass_not (leb n longest) n (progress m n m.erasure) f a in
@@ -197,7 +197,7 @@ waits_refused m k o b n f r e a s d =
     spared false = refl
 
 pub waits_done : (m k : Meaning) (o : Option Books) (b c : Books) (n us : ℕ) (q : Progress) (w : Bool) → o ≡ Some b
-    → answer (pass_no n) n (progress m n m.erasure) ≡ Ok q → k ≡ after_pass m n → w ≡ is_worn q → pair_of c ≡ spoilt_if w (pair_of b) → us ≡ moved m k
+    → answer (time_no n) n (progress m n m.erasure) ≡ Ok q → k ≡ after_pass m n → w ≡ is_worn q → pair_of c ≡ spoilt_if w (pair_of b) → us ≡ moved m k
     → Waits (desk m o) n (Ok us) (desk k (Some c))
 unfolding Waits
 waits_done m k o b c n us q w e a s j d t =

@@ -1,8 +1,8 @@
 -- The four ways in which a page takes new stops, each with what makes it the way.
 use Rattle.std.proofs.Common.{◌≡◌, ℕ, ◌<◌, true, false, cond, ◌&&◌, ltb, Ok, Err, Option, Result, subst, inl, inr}
 use Rattle.std.proofs.lemmas.Bool.{cases_Bool, ltb-true, cond-true, cond-false}
-use Rattle.refusal.specs.declared.Cause.TheVariants.{SpareSpoilt}
-use Rattle.part.specs.declared.fault.PartFault.{PartFault}
+use Rattle.fault.specs.declared.cause.Cause.TheVariants.{SpareSpoilt}
+use Rattle.fault.specs.declared.faults.PartFault.{PartFault}
 use Rattle.part.specs.Meaning.{Meaning}
 use Rattle.book.specs.declared.page.Page.{Page}
 use Rattle.book.specs.Pages.{page_at, used}

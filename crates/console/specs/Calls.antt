@@ -1,12 +1,12 @@
 -- open, wait, and one relation for the five calls that a list may have.
 use Rattle.std.specs.Prelude.{◌≡◌, ℕ, cond, Some, None, Ok, Err, Option, Result, nat_le}
-use Rattle.refusal.specs.declared.Cause.TheVariants.{OutOfTurn, TimeTooLong}
-use Rattle.part.specs.declared.fault.PartFault.{PartFault}
+use Rattle.fault.specs.declared.cause.Cause.TheVariants.{OutOfTurn, TimeTooLong}
+use Rattle.fault.specs.declared.faults.PartFault.{PartFault}
 use Rattle.part.specs.Meaning.{Meaning}
 use Rattle.part.specs.Calls.{longest, after_pass}
 use Rattle.book.specs.Pairs.{Pair, spoilt_if}
 use Rattle.book.specs.Finding.{Opened}
-use Rattle.console.specs.declared.fault.ConsoleFault.{ConsoleFault}
+use Rattle.fault.specs.declared.faults.ConsoleFault.{ConsoleFault}
 use Rattle.console.specs.declared.answers.Recalled.{Recalled}
 use Rattle.console.specs.declared.answers.Found.{Found}
 use Rattle.console.specs.declared.answers.Said.TheVariants.{Done, Shows, Finds}

@@ -1,8 +1,8 @@
 -- What a check that runs before anything is touched answers: the refusal, or the books and the position.
 use Rattle.std.specs.Prelude.{◌≡◌, ℕ, Some, None, Ok, Err, Option, Result}
-use Rattle.refusal.specs.declared.Cause.{Cause}
+use Rattle.fault.specs.declared.cause.Cause.{Cause}
 use Rattle.book.specs.declared.books.Books.{Books}
-use Rattle.console.specs.declared.fault.ConsoleFault.{ConsoleFault}
+use Rattle.fault.specs.declared.faults.ConsoleFault.{ConsoleFault}
 use Rattle.console.specs.declared.spot.Spot.{Spot}
 use Rattle.console.specs.Faults.{no_place}
 

@@ -1,8 +1,8 @@
 -- A console's fault: the part's fault whole, and the position of the call, or 0.
 use Rattle.std.specs.Prelude.{ℕ, Ok, Err, Result}
-use Rattle.refusal.specs.declared.Cause.{Cause}
-use Rattle.part.specs.declared.fault.PartFault.{PartFault}
-use Rattle.console.specs.declared.fault.ConsoleFault.{ConsoleFault}
+use Rattle.fault.specs.declared.cause.Cause.{Cause}
+use Rattle.fault.specs.declared.faults.PartFault.{PartFault}
+use Rattle.fault.specs.declared.faults.ConsoleFault.{ConsoleFault}
 
 -- a part's fault at a position
 abbrev pub at_position : ℕ → PartFault → ConsoleFault

@@ -1,15 +1,15 @@
 -- recall and next. Both hold a running erasure, read, and let it go on.
 use Rattle.std.specs.Prelude.{◌≡◌, ℕ, zero, suc, ◌+◌, ◌-◌, cond, Some, None, Ok, Err, Option, Result, nat_le}
-use Rattle.refusal.specs.declared.Cause.{Cause}
-use Rattle.refusal.specs.declared.Cause.TheVariants.{OutOfTurn, PositionOutside}
-use Rattle.part.specs.declared.fault.PartFault.{PartFault}
+use Rattle.fault.specs.declared.cause.Cause.{Cause}
+use Rattle.fault.specs.declared.cause.Cause.TheVariants.{OutOfTurn, PositionOutside}
+use Rattle.fault.specs.declared.faults.PartFault.{PartFault}
 use Rattle.part.specs.Meaning.{Meaning}
 use Rattle.part.specs.Calls.{Held, gone_on}
 use Rattle.book.specs.Pages.{page_at}
 use Rattle.book.specs.Reading.{reading}
 use Rattle.book.specs.Burning.{stops_of}
 use Rattle.book.specs.Pairs.{Pair}
-use Rattle.console.specs.declared.fault.ConsoleFault.{ConsoleFault}
+use Rattle.fault.specs.declared.faults.ConsoleFault.{ConsoleFault}
 use Rattle.console.specs.declared.answers.Recalled.{Recalled}
 use Rattle.console.specs.declared.answers.Found.{Found}
 use Rattle.console.specs.Desks.{Desk, opened, moved}

@@ -1,8 +1,8 @@
 -- set and clear. Both store at a position: set some stops, and clear none.
 use Rattle.std.specs.Prelude.{◌≡◌, ℕ, Bool, true, false, cond, ◌&&◌, Some, None, Ok, Err, Option, Result, nat_le, nat_lt}
-use Rattle.refusal.specs.declared.Cause.{Cause}
-use Rattle.refusal.specs.declared.Cause.TheVariants.{OutOfTurn, PositionOutside, StopOutside, SpareSpoilt}
-use Rattle.part.specs.declared.fault.PartFault.{PartFault}
+use Rattle.fault.specs.declared.cause.Cause.{Cause}
+use Rattle.fault.specs.declared.cause.Cause.TheVariants.{OutOfTurn, PositionOutside, StopOutside, SpareSpoilt}
+use Rattle.fault.specs.declared.faults.PartFault.{PartFault}
 use Rattle.part.specs.Meaning.{Meaning}
 use Rattle.part.specs.Calls.{answer, begin_no, Begun}
 use Rattle.book.specs.declared.page.Page.{Page}
@@ -10,7 +10,7 @@ use Rattle.book.specs.Pages.{page_at, used}
 use Rattle.book.specs.Reading.{reading}
 use Rattle.book.specs.Burning.{Ran, line_added, will_hold, book_copied}
 use Rattle.book.specs.Pairs.{Pair, changed, spoilt_if}
-use Rattle.console.specs.declared.fault.ConsoleFault.{ConsoleFault}
+use Rattle.fault.specs.declared.faults.ConsoleFault.{ConsoleFault}
 use Rattle.console.specs.declared.way.Way.{Way}
 use Rattle.console.specs.declared.way.Way.TheVariants.{Nothing, Line, Change, Spoilt}
 use Rattle.console.specs.Desks.{Desk, opened, moved}

@@ -4,11 +4,10 @@ ghost use Rattle.console.specs.Storing.{store_no};
 ghost use Rattle.console.specs.Looking.{recall_no, next_no};
 ghost use Rattle.console.specs.Checks.{Checked};
 
-use crate::fault::ConsoleFault;
+use fault::{Cause, ConsoleFault};
 use crate::raise::refused;
 use crate::spot::Spot;
 use book::{Books, STOPS};
-use refusal::Cause;
 
 impl Spot {
     // Where recall looks, or why it is refused.

@@ -6,11 +6,11 @@ ghost use Rattle.console.specs.Looking.{searched, Looks, found, Nexts};
 
 use crate::answers::Found;
 use crate::console::Console;
-use crate::fault::ConsoleFault;
+use fault::{ConsoleFault, PartFault};
 use crate::raise::at;
 use crate::spot::Spot;
 use book::Books;
-use part::{Part, PartFault};
+use part::Part;
 
 // The first filled position after one, or none. It stops there.
 fn search<P: Part>(part: &mut P, books: Books, after: u8) -> Result<Option<u32>, PartFault>

@@ -4,11 +4,10 @@ ghost use Rattle.console.specs.Desks.{desk};
 ghost use Rattle.console.specs.Calls.{Opens};
 
 use crate::console::Console;
-use crate::fault::ConsoleFault;
+use fault::{Cause, ConsoleFault};
 use crate::raise::refused;
 use book::Books;
 use part::Part;
-use refusal::Cause;
 
 impl<P: Part + Drop> Console<P> {
     /// Opens the console on two blocks of its part, and reports the microseconds. A refused open leaves it closed.

@@ -6,7 +6,7 @@ ghost use Rattle.console.specs.Calls.{done, shows, finds, Replies};
 use crate::answers::{Answer, Found, Recalled, Said};
 use crate::call::Call;
 use crate::console::Console;
-use crate::fault::ConsoleFault;
+use fault::ConsoleFault;
 use part::Part;
 
 fn done(res: Result<u32, ConsoleFault>) -> Result<Answer, ConsoleFault>

@@ -2,9 +2,7 @@
 ghost use Rattle.std.specs.Prelude.{◌≡◌, Result};
 ghost use Rattle.console.specs.Faults.{raised, at_position, no_place, placed};
 
-use crate::fault::ConsoleFault;
-use part::PartFault;
-use refusal::Cause;
+use fault::{Cause, ConsoleFault, PartFault};
 
 // A part's fault as a console's, with its cause and place whole. The position is 0 until the call fills it in. By hand, since a derive
 // writes no contract that says so.

@@ -9,11 +9,11 @@ ghost use Rattle.console.specs.Looking.{Looks, recalled, Recalls};
 
 use crate::answers::Recalled;
 use crate::console::Console;
-use crate::fault::ConsoleFault;
+use fault::{ConsoleFault, PartFault};
 use crate::raise::at;
 use crate::spot::Spot;
 use book::Books;
-use part::{Part, PartFault};
+use part::Part;
 
 // What a position holds.
 fn look<P: Part>(part: &mut P, books: Books, position: u8) -> Result<Option<u64>, PartFault>

@@ -6,14 +6,13 @@ ghost use Rattle.console.specs.Faults.{raised};
 ghost use Rattle.console.specs.Storing.{Changes, Goes, Stored, Stores, reported};
 
 use crate::console::Console;
-use crate::fault::ConsoleFault;
+use fault::{Cause, ConsoleFault, PartFault};
 use crate::raise::at;
 use crate::spot::Spot;
 use crate::wait::let_end;
 use crate::way::Way;
 use book::{Books, Page};
-use part::{Part, PartFault};
-use refusal::Cause;
+use part::Part;
 
 // Changes books: every position is copied to the other one, that one becomes current, and the old one begins to be erased.
 fn change<P: Part>(

@@ -6,10 +6,9 @@ ghost use Rattle.console.specs.Waiting.{let_end, ends_worn, is_worn};
 ghost use Rattle.console.specs.Calls.{Waits};
 
 use crate::console::Console;
-use crate::fault::ConsoleFault;
+use fault::{Cause, ConsoleFault, PartFault};
 use crate::raise::refused;
-use part::{Part, PartFault, Progress, Standing};
-use refusal::Cause;
+use part::{Part, Progress, Standing};
 
 // The microseconds of one pass in which an erasure is waited for.
 const PASS: u32 = 1_000;

@@ -1,16 +1,16 @@
 -- The calls of a driven chip, put together from their steps.
 use Rattle.std.proofs.Common.{◌≡◌, ℕ, Bool, true, false, cond, eqb, ltb, length, get_or, Some, None, Ok, Err, Option, Result, sym, refl, ap, ◌∙◌, subst, inl, inr, arith}
 use Rattle.std.proofs.lemmas.Bool.{cases_Bool, cond-true, cond-false, ltb-true}
-use Rattle.refusal.specs.declared.Cause.{Cause}
-use Rattle.refusal.specs.declared.Cause.TheVariants.{AddressOutside, ErasureInTheWay, Guarded, NeedsErase, Worn}
+use Rattle.fault.specs.declared.cause.Cause.{Cause}
+use Rattle.fault.specs.declared.cause.Cause.TheVariants.{AddressOutside, ErasureInTheWay, Guarded, NeedsErase, Worn}
 use Rattle.geometry.specs.Blocks.{start_of}
 use Rattle.geometry.specs.Plans.{plan_of, Contiguous}
 use Rattle.geometry.specs.Plans as plans
 use Rattle.geometry.proofs.Placing.{every_plan, table_start}
-use Rattle.part.specs.declared.fault.PartFault.{PartFault}
+use Rattle.fault.specs.declared.faults.PartFault.{PartFault}
 use Rattle.part.specs.Meaning.{Erasure, Meaning, cell, block, guarded, worn}
 use Rattle.part.specs.Calls.{answer, stands, hides, outside, needs_erase, peek_no, burn_no, Burnt, BurntBy, Refused}
-use Rattle.refusal.specs.Numbers.{number_of}
+use Rattle.fault.specs.Causes.{number_of}
 use Rattle.driver.specs.Steps.{Read, burn_why, Burns, Programmed}
 
 -- The block that a chip tells is the block of the part.

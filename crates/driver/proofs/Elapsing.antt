@@ -1,13 +1,13 @@
 -- Time on a driven chip, in the words of a part.
 use Rattle.std.proofs.Common.{◌≡◌, ℕ, ◌-◌, ◌<◌, ◌≤◌, true, false, cond, not, eqb, ltb, leb, length, get_or, Some, None, Ok, Err, sym, refl, ap, ◌∙◌, subst, inl, inr, arith, lit≤}
 use Rattle.std.proofs.lemmas.Bool.{ltb-true, lt-ltb, le-ltb, eq-eqb, cases_lt, cases_Bool, cond-true, cond-false, cond_both, leb-true}
-use Rattle.refusal.specs.declared.Cause.TheVariants.{TimeTooLong}
-use Rattle.refusal.proofs.Granted.{granted, denied}
+use Rattle.fault.specs.declared.cause.Cause.TheVariants.{TimeTooLong}
+use Rattle.fault.proofs.Granted.{granted, denied}
 use Rattle.geometry.specs.Blocks.{bit, block_of, filled, wiped}
 use Rattle.geometry.specs.Plans.{plan_of}
 use Rattle.geometry.proofs.Placing.{every_few}
 use Rattle.geometry.proofs.Wiping.{wiped_at}
-use Rattle.chip.specs.declared.fault.ChipFault.{ChipFault}
+use Rattle.fault.specs.declared.faults.ChipFault.{ChipFault}
 use Rattle.chip.specs.declared.state.Phase.{Phase}
 use Rattle.chip.specs.declared.state.Phase.TheVariants.{Window, Erasing as Begun}
 use Rattle.chip.specs.declared.state.Erase.{Erase}
@@ -26,7 +26,7 @@ use Rattle.part.specs.declared.answers.Standing.TheVariants.{Idle, Running, Susp
 use Rattle.part.specs.Faults.{raised}
 use Rattle.part.specs.Meaning.{Meaning, worn, ticked, with_erasure}
 use Rattle.part.specs.Meaning as meanings
-use Rattle.part.specs.Calls.{answer, pass_no, can_hold, passed, progress, after_pass}
+use Rattle.part.specs.Calls.{answer, time_no, can_hold, passed, progress, after_pass}
 use Rattle.driver.specs.declared.verdict.Verdict.{Verdict}
 use Rattle.driver.specs.declared.verdict.Verdict.TheVariants.{Busy, Done, Failed}
 use Rattle.driver.specs.Status.{judged, byte_of}
@@ -45,10 +45,10 @@ use Rattle.driver.proofs.Burning.{marked}
 pub too_long : (n : ℕ) (x : ChipFault) → waited n ≡ Err x → (leb n longest ≡ false) × (raised x ≡ record { cause = TimeTooLong; place = n })
 too_long n x e = let d = denied (leb n longest) _ _ x e in (d.0, ap raised d.1)
 
-pub refused_answer : {X : Type 0} (n : ℕ) (x : X) → leb n longest ≡ false → answer (pass_no n) n x ≡ Err (record { cause = TimeTooLong; place = n })
+pub refused_answer : {X : Type 0} (n : ℕ) (x : X) → leb n longest ≡ false → answer (time_no n) n x ≡ Err (record { cause = TimeTooLong; place = n })
 refused_answer n x e = ap (λ o. answer o n x) (cond-false (leb n longest) None (Some TimeTooLong) e)
 
-pub granted_answer : {X : Type 0} (n : ℕ) (x : X) → leb n longest ≡ true → answer (pass_no n) n x ≡ Ok x
+pub granted_answer : {X : Type 0} (n : ℕ) (x : X) → leb n longest ≡ true → answer (time_no n) n x ≡ Ok x
 granted_answer n x e = ap (λ o. answer o n x) (cond-true (leb n longest) None (Some TimeTooLong) e)
 
 pub short_enough : (n : ℕ) → waited n ≡ Ok tt → leb n longest ≡ true

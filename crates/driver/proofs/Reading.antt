@@ -2,11 +2,11 @@
 use Rattle.std.proofs.Common.{◌≡◌, ℕ, ◌%◌, ◌^◌, Bool, true, false, cond, eqb, length, Ok, Err, refl, ap, ◌∙◌, arith}
 use Rattle.std.proofs.lemmas.Bool.{le-ltb, lt-ltb, leb-true, leb-false, cond-true, cond-false, true≢false}
 use Rattle.std.proofs.lemmas.Bool.Decides.{nat_tests}
-use Rattle.refusal.specs.declared.Cause.TheVariants.{AddressOutside}
+use Rattle.fault.specs.declared.cause.Cause.TheVariants.{AddressOutside}
 use Rattle.geometry.specs.Blocks.{bit, block_of}
 use Rattle.geometry.specs.Plans.{plan_of}
 use Rattle.geometry.proofs.Bitwise.{bit_one}
-use Rattle.chip.specs.declared.fault.ChipFault.{ChipFault}
+use Rattle.fault.specs.declared.faults.ChipFault.{ChipFault}
 use Rattle.chip.specs.declared.setup.Setup.{Setup}
 use Rattle.chip.specs.declared.state.State.{State}
 use Rattle.chip.specs.Flash.{Flash, with_state, blocks, size, inside, cell, lies_in}

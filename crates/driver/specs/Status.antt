@@ -1,6 +1,6 @@
 -- What the driver makes of the bytes that it reads.
 use Rattle.std.specs.Prelude.{ℕ, ◌/◌, ◌%◌, cond, Ok, Err, Result, ◌==◌}
-use Rattle.chip.specs.declared.fault.ChipFault.{ChipFault}
+use Rattle.fault.specs.declared.faults.ChipFault.{ChipFault}
 use Rattle.driver.specs.declared.verdict.Verdict.{Verdict}
 use Rattle.driver.specs.declared.verdict.Verdict.TheVariants.{Busy, Done, Failed}
 

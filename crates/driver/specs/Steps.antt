@@ -1,8 +1,8 @@
 -- What the steps of the driver's calls say, in the words of a part.
 use Rattle.std.specs.Prelude.{◌≡◌, ℕ, Bool, true, false, cond, Some, None, Ok, Err, Option, Result, slice_set}
-use Rattle.refusal.specs.declared.Cause.{Cause}
-use Rattle.refusal.specs.declared.Cause.TheVariants.{AddressOutside, ErasureInTheWay, Guarded, NeedsErase}
-use Rattle.part.specs.declared.fault.PartFault.{PartFault}
+use Rattle.fault.specs.declared.cause.Cause.{Cause}
+use Rattle.fault.specs.declared.cause.Cause.TheVariants.{AddressOutside, ErasureInTheWay, Guarded, NeedsErase}
+use Rattle.fault.specs.declared.faults.PartFault.{PartFault}
 use Rattle.part.specs.declared.answers.Progress.{Progress}
 use Rattle.part.specs.declared.answers.Progress.TheVariants.{Running, Finished, Worn}
 use Rattle.part.specs.declared.answers.Standing.{Standing}

@@ -6,8 +6,8 @@ ghost use Rattle.driver.specs.Tying;
 
 use crate::driven::Driven;
 use geometry::Block;
-use part::{Part, PartFault, Progress, Shape, Standing, Turn};
-use refusal::Cause;
+use fault::{Cause, PartFault};
+use part::{Part, Progress, Shape, Standing, Turn};
 
 impl Part for Driven {
     ghost means = { meaning };

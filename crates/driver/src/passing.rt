@@ -2,13 +2,14 @@
 ghost use Rattle.std.specs.Prelude.{◌≡◌};
 ghost use Rattle.part.specs.declared.answers.Standing.TheVariants.{Running};
 ghost use Rattle.part.specs.declared.answers.Turn.TheVariants.{Nothing};
-ghost use Rattle.part.specs.Calls.{answer, pass_no, can_hold, progress, after_pass};
+ghost use Rattle.part.specs.Calls.{answer, time_no, can_hold, progress, after_pass};
 ghost use Rattle.driver.specs.Means.{means};
 ghost use Rattle.driver.specs.Steps.{progress_of, stands_after};
 
 use crate::driven::Driven;
 use crate::verdict::Verdict;
-use part::{PartFault, Progress, Standing};
+use fault::PartFault;
+use part::{Progress, Standing};
 
 // What a look at the end of a pass tells of the erasure.
 impl From<Verdict> for Progress {
@@ -37,7 +38,7 @@ impl Driven {
     // Lets time pass where no erasure runs.
     pub(crate) fn pass_still(&mut self, n: u32) -> Result<(), PartFault>
         requires { can_hold (means self.old).erasure ≡ Nothing }
-        ensures answer { result ≡ answer (pass_no n) n tt }
+        ensures answer { result ≡ answer (time_no n) n tt }
         ensures passed { means self.new ≡ after_pass (means self.old) n }
     {
         Ok(self.bus.chip.pass(n)?)
@@ -46,7 +47,7 @@ impl Driven {
     // Lets time pass on a running erasure: one passing of time and one read.
     pub(crate) fn pass_running(&mut self, block: u32, n: u32) -> Result<Progress, PartFault>
         requires { self.old.standing ≡ Running block }
-        ensures answer { result ≡ answer (pass_no n) n (progress (means self.old) n (means self.old).erasure) }
+        ensures answer { result ≡ answer (time_no n) n (progress (means self.old) n (means self.old).erasure) }
         ensures passed { means self.new ≡ after_pass (means self.old) n }
     {
         let at = self.start_of(block);

@@ -6,8 +6,8 @@ ghost use Rattle.driver.specs.Means.{means};
 ghost use Rattle.driver.specs.Steps.{Read, burn_why, Burns, Programmed};
 
 use crate::driven::Driven;
-use part::{Part, PartFault, Standing, granted};
-use refusal::Cause;
+use fault::{Cause, PartFault};
+use part::{Part, Standing, granted};
 
 impl Driven {
     // One read cycle: a cell, unless an erasure hides it.

@@ -2,8 +2,8 @@
 use Rattle.std.proofs.Common.{◌≡◌, ℕ, ◌+◌, Bool, true, false, eqb, leb, set, Some, None, Option, refl, ap, ◌∙◌, rules, inl, inr}
 use Rattle.std.proofs.lemmas.List.{length-set}
 use Rattle.std.proofs.lemmas.Bool.{and_cases, and_left, and_right, and_parts, and_from, not-true, not_from_false, cond_both}
-use Rattle.refusal.specs.declared.Cause.{Cause}
-use Rattle.refusal.specs.Numbers.{number_of}
+use Rattle.fault.specs.declared.cause.Cause.{Cause}
+use Rattle.fault.specs.Causes.{number_of}
 use Rattle.part.specs.Meaning.{Erasure, Meaning, size, count, with_cells}
 use Rattle.part.specs.Calls.{stands, Took, Refused, burn_no, BurntBy, Burnt, BegunBy, longest, run_on, after_pass}
 use Rattle.joined.specs.Pile.{fits, elapsed}

@@ -2,8 +2,8 @@
 use Rattle.std.proofs.Common.{◌≡◌, ℕ, ◌+◌, ◌-◌, ◌%◌, ◌<◌, ◌≤◌, Bool, true, false, eqb, ltb, leb, List, set, Some, None, Option, sym, refl, ap, ◌∙◌, subst, inl, inr, arith}
 use Rattle.std.proofs.lemmas.List.{set-append_left, set-append_right}
 use Rattle.std.proofs.lemmas.Bool.{le-leb, lt-ltb, cases_Bool, cond-true, true≢false}
-use Rattle.refusal.specs.declared.Cause.{Cause}
-use Rattle.refusal.specs.Numbers.{number_of}
+use Rattle.fault.specs.declared.cause.Cause.{Cause}
+use Rattle.fault.specs.Causes.{number_of}
 use Rattle.part.specs.Meaning.{Erasure, Meaning, Lawful, ErasureLawful, size, count, with_cells, with_erasure, ticked}
 use Rattle.part.specs.Calls.{stands, Took, Refused, BurntBy, BegunBy, longest, run_on, after_pass}
 use Rattle.joined.specs.Pile.{raised, either, pile, elapsed}

@@ -1,14 +1,14 @@
 -- The calls of a joined part that is not dead, by the calls of its sides.
 use Rattle.std.proofs.Common.{◌≡◌, ℕ, ◌+◌, ◌-◌, ◌<◌, ◌≤◌, Bool, true, false, not, ◌&&◌, leb, Some, None, Option, Result, sym, refl, ap, ◌∙◌, subst, inl, inr, arith}
 use Rattle.std.proofs.lemmas.Bool.{cond-true, cond-false, and_parts, and_left, and_right, and_from, cases_lt, le-leb}
-use Rattle.refusal.specs.declared.Cause.{Cause}
-use Rattle.refusal.specs.declared.Cause.TheVariants.{AddressOutside, NoSuchBlock}
+use Rattle.fault.specs.declared.cause.Cause.{Cause}
+use Rattle.fault.specs.declared.cause.Cause.TheVariants.{AddressOutside, NoSuchBlock}
 use Rattle.geometry.specs.declared.block.Block.{Block}
-use Rattle.part.specs.declared.fault.PartFault.{PartFault}
+use Rattle.fault.specs.declared.faults.PartFault.{PartFault}
 use Rattle.part.specs.declared.answers.Progress.{Progress}
 use Rattle.part.specs.declared.answers.Shape.{Shape}
 use Rattle.part.specs.Meaning.{Meaning, Lawful, size, count, cell, shape_of}
-use Rattle.part.specs.Calls.{answer, stands, runs, peek_no, burn_no, begin_no, pass_no, BurntBy, Burnt, BegunBy, Begun, progress, after_pass, block_at}
+use Rattle.part.specs.Calls.{answer, stands, runs, peek_no, burn_no, begin_no, time_no, BurntBy, Burnt, BegunBy, Begun, progress, after_pass, block_at}
 use Rattle.part.specs.Standings.{stood, ran}
 use Rattle.part.proofs.Standings.{stood_is, ran_is}
 use Rattle.joined.specs.Pile.{pile, fits, Asked, joined, elapsed, later, LaterRoom, placed}
@@ -59,10 +59,10 @@ passes l m n k m' n' lm t f p q =
     ∙ ap (λ (x : Meaning). after_pass x k) (sym (on l m n t f))
 
 pub pass_second : (l : Bool) (m n : Meaning) (k : ℕ) (p : Result Progress PartFault) → Lawful m → l ≡ true → fits m n ≡ true → stands m.erasure ≡ false
-    → p ≡ answer (pass_no k) k (progress n k n.erasure) → p ≡ answer (pass_no k) k (progress (joined l m n) k (joined l m n).erasure)
+    → p ≡ answer (time_no k) k (progress n k n.erasure) → p ≡ answer (time_no k) k (progress (joined l m n) k (joined l m n).erasure)
 pass_second l m n k p lm t f i q =
     q
-    ∙ ap (answer (pass_no k) k)
+    ∙ ap (answer (time_no k) k)
     (sym (ap (λ (x : Meaning). progress x k x.erasure) (on l m n t f) ∙ progress_second m n lm (one m n f) k i))
 
 module _ (l : Bool) (m n : Meaning) (s t : Shape) (v : Seen l m n s t) where

@@ -4,8 +4,8 @@ use Rattle.std.proofs.Common.{ap, ◌∙◌, arith}
 use Rattle.std.proofs.lemmas.List.{length-append, get_or_append_left, get_or-append_right}
 use Rattle.std.proofs.lemmas.Bool.{lt-leb, ne_eqb, true≢false}
 use Rattle.std.proofs.lemmas.Bool.Decides.{nat_tests}
-use Rattle.refusal.specs.declared.Cause.{Cause}
-use Rattle.refusal.specs.declared.Cause.TheVariants.{ErasureInTheWay}
+use Rattle.fault.specs.declared.cause.Cause.{Cause}
+use Rattle.fault.specs.declared.cause.Cause.TheVariants.{ErasureInTheWay}
 use Rattle.geometry.proofs.Placing.{block_within}
 use Rattle.part.specs.Meaning.{Erasure, Meaning, Lawful, ErasureLawful, size, count, cell, block, guarded, worn}
 use Rattle.part.specs.Calls.{stands, runs, hides, peek_no, burn_no, begin_no}

@@ -5,8 +5,8 @@ ghost use Rattle.joined.specs.Asking.{lawful_joined};
 use crate::joined::Joined;
 use crate::sides::{beside, either, placed, refused};
 use geometry::Block;
-use part::{Part, PartFault, Progress, Shape, Standing, Turn};
-use refusal::Cause;
+use fault::{Cause, PartFault};
+use part::{Part, Progress, Shape, Standing, Turn};
 
 // peek, burn and begin have one frame: which side, what is in the way, the inner place. A function for it would take two closures and four numbers,
 // and be no plainer.

@@ -1,10 +1,11 @@
 ghost use Rattle.std.specs.Prelude.{◌≡◌, false};
-ghost use Rattle.part.specs.Calls.{answer, pass_no, after_pass};
+ghost use Rattle.part.specs.Calls.{answer, time_no, after_pass};
 ghost use Rattle.part.specs.declared.answers.Progress.TheVariants.{Idle};
 ghost use Rattle.joined.specs.Pile.{Asked, joined as meaning, made};
 
 use crate::sides::fit;
-use part::{Part, PartFault, Progress, Shape};
+use fault::PartFault;
+use part::{Part, Progress, Shape};
 
 /// Two parts end to end. One that is not live is dead: it has no blocks, but time still passes on both sides, so it keeps them, and a flag is
 /// plainer than an enum with the same two sides in each case.
@@ -42,7 +43,7 @@ impl<P: Part + Drop, Q: Part + Drop> Joined<P, Q> {
 
     // Time passes on both sides of a dead part too, and it stays dead whatever becomes of their erasures.
     pub(crate) fn pass_dead(&mut self, n: u32) -> Result<Progress, PartFault>
-        ensures answer { result ≡ answer (pass_no n) n Idle }
+        ensures answer { result ≡ answer (time_no n) n Idle }
         ensures dead { self.new.live ≡ false }
         ensures first { P.Part.means self.new.first ≡ after_pass (P.Part.means self.old.first) n }
         ensures second { Q.Part.means self.new.second ≡ after_pass (Q.Part.means self.old.second) n }

@@ -5,8 +5,8 @@ ghost use Rattle.part.specs.Calls.{after_pass};
 ghost use Rattle.part.specs.Standings.{stood};
 ghost use Rattle.joined.specs.Pile.{either_stands, Room, placed, elapsed};
 
-use part::{Part, PartFault, Shape, Standing};
-use refusal::Cause;
+use fault::{Cause, PartFault};
+use part::{Part, Shape, Standing};
 
 // The most bytes that a part has.
 const MOST_BYTES: u64 = 16_777_216;

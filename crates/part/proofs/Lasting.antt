@@ -1,9 +1,9 @@
 -- The laws of a part.
-use Rattle.std.proofs.Common.{◌≡◌, ℕ, ◌+◌, ◌-◌, ◌<◌, ◌≤◌, Bool, true, false, cond, eqb, ltb, leb, List, [], ◌∷◌, length, get_or, set, Some, None, Option, sym, refl, ap, ◌∙◌, subst, inl, inr, arith}
-use Rattle.std.proofs.lemmas.List.{length-set, get_or-set_same, get_or-set_other}
+use Rattle.std.proofs.Common.{◌≡◌, ℕ, ◌+◌, ◌-◌, ◌<◌, ◌≤◌, Bool, true, false, cond, eqb, ltb, leb, List, [], ◌∷◌, length, get_or, set, Some, None, Option, is_some, sym, refl, ap, ◌∙◌, subst, inl, inr, arith}
+use Rattle.std.proofs.lemmas.List.{length-set, get_or_past, get_or-set_same, get_or-set_other}
 use Rattle.std.proofs.lemmas.Bool.{lt-ltb, le-ltb, ltb-true, ne_eqb, cases_lt, cases_Bool, cases_eq, cond-true, cond-false, cond_both, both_ways, true≢false}
-use Rattle.refusal.specs.declared.Cause.{Cause}
-use Rattle.refusal.specs.Numbers.{number_of}
+use Rattle.fault.specs.declared.cause.Cause.{Cause}
+use Rattle.fault.specs.Causes.{number_of}
 use Rattle.geometry.specs.Blocks.{block_of}
 use Rattle.geometry.proofs.Wiping.{wiped_at, length_wiped}
 use Rattle.part.specs.declared.answers.Progress.TheVariants.{Running}
@@ -11,23 +11,17 @@ use Rattle.part.specs.declared.answers.Turn.{Turn}
 use Rattle.part.specs.declared.answers.Turn.TheVariants.{Done, Nothing}
 use Rattle.part.specs.Meaning.{Erasure, Meaning, size, count, cell, block, guarded, worn, with_cells, with_erasure, ticked, ErasureLawful, Lawful}
 use Rattle.part.specs.Calls.{longest, stands, burn_no, begin_no, Took, Refused, BurntBy, Burnt, BegunBy, turned, can_hold, HeldBy, Held, gone_on, erased, run_on, passed, progress, after_pass}
-use Rattle.part.specs.Laws.{Call, look, burn, begin, hold, go_on, pass, Made, Run, none, more, spares, AllSpare, PartLaws}
+use Rattle.part.specs.Laws.{Call, look, burn, begin, hold, go_on, pass, Made, Run, none, more, spares, AllSpare, SameBlocks, PartLaws}
 use Rattle.part.proofs.Clocks.{ticked_more}
 use Rattle.part.proofs.Granting.{burnable, erasable}
+use Rattle.part.proofs.Standings.{unbarred}
 
--- What a call leaves of the blocks: their sizes and marks, and the number of cells.
-pub record Alike (m n : Meaning) : Type 0 where
-  pub sizes : n.sizes ≡ m.sizes
-  pub guards : n.guards ≡ m.guards
-  pub wears : n.wears ≡ m.wears
-  pub cells : length n.cells ≡ length m.cells
-
-alike_same : (m n : Meaning) → n ≡ m → Alike m n
-alike_same m n e = record {
+same_blocks : (m n : Meaning) → n ≡ m → SameBlocks m n
+same_blocks m n e = record {
   sizes = ap (λ (x : Meaning). x.sizes) e;
   guards = ap (λ (x : Meaning). x.guards) e;
   wears = ap (λ (x : Meaning). x.wears) e;
-  cells = ap (λ (x : Meaning). length x.cells) e;
+  size = ap size e;
 }
 
 -- The end of an erasure leaves the cells of every other block, and of a worn one.
@@ -49,27 +43,27 @@ erased_worn m b a l h w =
 
 -- Time: what it does to one cell, and what it leaves.
 pub record Kept (m n : Meaning) (a : ℕ) : Type 0 where
-  pub alike : Alike m n
+  pub blocks : SameBlocks m n
   pub same : cell n a ≡ cell m a
 
 run_kept : (m : Meaning) (n a : ℕ) (o : Option Erasure)
     → ((e : Erasure) → o ≡ Some e → get_or (erased m e.block) a 0 ≡ cell m a) → Kept m (run_on m n o) a
-run_kept m n a None k = record { alike = alike_same m m refl; same = refl }
+run_kept m n a None k = record { blocks = same_blocks m m refl; same = refl }
 run_kept m n a (Some e) k =
     cond_both e.running _ _ (λ (x : Meaning). Kept m x a)
     (λ _. cond_both (ltb n e.left) _ _ (λ (x : Meaning). Kept m x a)
-    (λ _. record { alike = record { sizes = refl; guards = refl; wears = refl; cells = refl }; same = refl })
-    (λ _. record { alike = record { sizes = refl; guards = refl; wears = refl; cells = erased_length m e.block }; same = k e refl }))
-    (λ _. record { alike = alike_same m m refl; same = refl })
+    (λ _. record { blocks = record { sizes = refl; guards = refl; wears = refl; size = refl }; same = refl })
+    (λ _. record { blocks = record { sizes = refl; guards = refl; wears = refl; size = erased_length m e.block }; same = k e refl }))
+    (λ _. record { blocks = same_blocks m m refl; same = refl })
 
 -- A call, by what it does.
 module _ (m : Meaning) (a : ℕ)
     (ended : (e : Erasure) → m.erasure ≡ Some e → get_or (erased m e.block) a 0 ≡ cell m a) where
   took_kept : (least most : ℕ) (x n : Meaning) → Took least most x n → Kept m x a → Kept m n a
-  took_kept least most x n t k = subst (λ (y : Meaning). Kept m y a) (sym t.is) (record { alike = record { sizes = k.alike.sizes; guards = k.alike.guards; wears = k.alike.wears; cells = k.alike.cells }; same = k.same })
+  took_kept least most x n t k = subst (λ (y : Meaning). Kept m y a) (sym t.is) (record { blocks = record { sizes = k.blocks.sizes; guards = k.blocks.guards; wears = k.blocks.wears; size = k.blocks.size }; same = k.same })
 
   itself : Kept m m a
-  itself = record { alike = alike_same m m refl; same = refl }
+  itself = record { blocks = same_blocks m m refl; same = refl }
 
   refused_kept : (t : Bool) (n : Meaning) → Refused t m n → Kept m n a
   refused_kept true n r = took_kept 0 300 m n r itself
@@ -79,24 +73,24 @@ module _ (m : Meaning) (a : ℕ)
   burnt_kept None x byte n s t =
       took_kept 1 300 (with_cells m (set m.cells x byte)) n t
       (record {
-        alike = record { sizes = refl; guards = refl; wears = refl; cells = length-set m.cells x byte };
+        blocks = record { sizes = refl; guards = refl; wears = refl; size = length-set m.cells x byte };
         same = get_or-set_other m.cells x a byte 0 (λ e. s refl (sym e));
       })
   burnt_kept (Some c) x byte n s t = refused_kept (eqb (number_of c) 8) n t
 
   begun_kept : (o : Option Cause) (b : ℕ) (n : Meaning) → BegunBy m b o n → Kept m n a
-  begun_kept None b n t = subst (λ (y : Meaning). Kept m y a) (sym t.is) (record { alike = record { sizes = refl; guards = refl; wears = refl; cells = refl }; same = refl })
+  begun_kept None b n t = subst (λ (y : Meaning). Kept m y a) (sym t.is) (record { blocks = record { sizes = refl; guards = refl; wears = refl; size = refl }; same = refl })
   begun_kept (Some c) b n t = subst (λ (y : Meaning). Kept m y a) (sym t) itself
 
   held_kept : (t : Turn) (n : Meaning) → HeldBy m t n → Kept m n a
-  held_kept Done n t = took_kept 0 15 (with_erasure m (turned false m.erasure)) n t (record { alike = record { sizes = refl; guards = refl; wears = refl; cells = refl }; same = refl })
+  held_kept Done n t = took_kept 0 15 (with_erasure m (turned false m.erasure)) n t (record { blocks = record { sizes = refl; guards = refl; wears = refl; size = refl }; same = refl })
   held_kept Nothing n t = subst (λ (y : Meaning). Kept m y a) (sym t) itself
 
   passed_kept : (n : ℕ) → Kept m (after_pass m n) a
   passed_kept n =
       cond_both (leb n longest) _ _ (λ (y : Meaning). Kept m y a)
       (λ _. let k = run_kept m n a m.erasure ended in
-      record { alike = record { sizes = k.alike.sizes; guards = k.alike.guards; wears = k.alike.wears; cells = k.alike.cells }; same = k.same })
+      record { blocks = record { sizes = k.blocks.sizes; guards = k.blocks.guards; wears = k.blocks.wears; size = k.blocks.size }; same = k.same })
       (λ _. itself)
 
   -- Every call leaves the cell, unless it is burnt, or its block's erasure ends.
@@ -105,7 +99,7 @@ module _ (m : Meaning) (a : ℕ)
   call_kept (burn x byte) n s d = burnt_kept (burn_no m x byte) x byte n (s x byte refl) d
   call_kept (begin b) n s d = begun_kept (begin_no m b) b n d
   call_kept hold n s d = held_kept (can_hold m.erasure) n d
-  call_kept go_on n s d = subst (λ (y : Meaning). Kept m y a) (sym d) (record { alike = record { sizes = refl; guards = refl; wears = refl; cells = refl }; same = refl })
+  call_kept go_on n s d = subst (λ (y : Meaning). Kept m y a) (sym d) (record { blocks = record { sizes = refl; guards = refl; wears = refl; size = refl }; same = refl })
   call_kept (pass k) n s d = subst (λ (y : Meaning). Kept m y a) (sym d) (passed_kept k)
 
 -- What a call leaves of the erasure: the block that stands is the one that stood, or the one that was begun.
@@ -154,8 +148,8 @@ module _ (m : Meaning) (P : ℕ → Type 0) (p : On P m.erasure) where
       subst (λ (y : Meaning). On P y.erasure) (sym d)
       (cond_both (leb k longest) _ _ (λ (y : Meaning). On P y.erasure) (λ _. run_erasure P m k m.erasure refl p) (λ _. p))
 
-alike_trans : (m k n : Meaning) → Alike m k → Alike k n → Alike m n
-alike_trans m k n p q = record { sizes = q.sizes ∙ p.sizes; guards = q.guards ∙ p.guards; wears = q.wears ∙ p.wears; cells = q.cells ∙ p.cells }
+blocks_trans : (m k n : Meaning) → SameBlocks m k → SameBlocks k n → SameBlocks m n
+blocks_trans m k n p q = record { sizes = q.sizes ∙ p.sizes; guards = q.guards ∙ p.guards; wears = q.wears ∙ p.wears; size = q.size ∙ p.size }
 
 abbrev All : (Call → Type 0) → List Call → Type 0
 All Fine [] = Unit {0}
@@ -164,27 +158,38 @@ All Fine (c ∷ cs) = Fine c × All Fine cs
 -- A run of calls leaves a cell, where no erasure that may end touches it, no burn that is accepted is at it, and every erasure that is begun is
 -- again such a one.
 module _ (m : Meaning) (a : ℕ) (P : ℕ → Type 0) (Fine : Call → Type 0)
-    (safe : (k : Meaning) → Alike m k → (e : Erasure) → P e.block → get_or (erased k e.block) a 0 ≡ cell k a)
-    (burns : (k : Meaning) → Alike m k → (x byte : ℕ) → Fine (burn x byte) → burn_no k x byte ≡ None → x ≡ a → ⊥)
-    (begins : (k : Meaning) → Alike m k → (b : ℕ) → Fine (begin b) → begin_no k b ≡ None → P b) where
+    (safe : (k : Meaning) → SameBlocks m k → (e : Erasure) → P e.block → get_or (erased k e.block) a 0 ≡ cell k a)
+    (burns : (k : Meaning) → SameBlocks m k → (x byte : ℕ) → Fine (burn x byte) → burn_no k x byte ≡ None → x ≡ a → ⊥)
+    (begins : (k : Meaning) → SameBlocks m k → (b : ℕ) → Fine (begin b) → begin_no k b ≡ None → P b) where
   on_block : (o : Option Erasure) (e : Erasure) → On P o → o ≡ Some e → P e.block
   on_block None e p d = let z : ◌≡◌ {A = ℕ} 0 1 = cc in absurd (omega arith)
   on_block (Some x) e p d = let same : x ≡ e = cc in subst (λ (y : Erasure). P y.block) same p.0
 
-  run_keeps : (k n : Meaning) (cs : List Call) → Run k cs n → All Fine cs → Alike m k → On P k.erasure → (v : ℕ) → cell k a ≡ v → cell n a ≡ v
+  run_keeps : (k n : Meaning) (cs : List Call) → Run k cs n → All Fine cs → SameBlocks m k → On P k.erasure → (v : ℕ) → cell k a ≡ v → cell n a ≡ v
   run_keeps k n cs (none x) f l p v e = e
   run_keeps k n cs (more {k = j} {c = c} {cs = rest} d r) f l p v e =
       let one = call_kept k a (λ x y. safe k l x (on_block k.erasure x p y)) c j
       (λ x byte i q. burns k l x byte (subst Fine i f.0) q) d in
       let on = call_on k P p c j (λ b i q. begins k l b (subst Fine i f.0) q) d in
-      run_keeps j n rest r f.1 (alike_trans m k j l one.alike) on v (one.same ∙ e)
+      run_keeps j n rest r f.1 (blocks_trans m k j l one.blocks) on v (one.same ∙ e)
 
 -- The laws.
-nothing_stands : (o : Option Erasure) (P : ℕ → Type 0) → stands o ≡ false → On P o
+fixed : (m n : Meaning) (cs : List Call) → Run m cs n → SameBlocks m n
+fixed m n cs (none x) = same_blocks m m refl
+fixed m n cs (more {k = k} {c = c} {cs = rest} d r) = blocks_trans m k n one.blocks (fixed k n rest r)
+  where
+    -- every call leaves the cell behind the last, which there is not
+    one : Kept m k (size m)
+    one =
+        call_kept m (size m)
+        (λ e q. get_or_past (erased m e.block) (size m) 0 (omega (arith, erased_length m e.block)) ∙ sym (get_or_past m.cells (size m) 0 (omega arith)))
+        c k (λ x byte i q l. absurd (omega (arith, (burnable m x byte q).within))) d
+
+nothing_stands : (o : Option Erasure) (P : ℕ → Type 0) → is_some o ≡ false → On P o
 nothing_stands None P e = tt
 nothing_stands (Some x) P e = absurd (true≢false e)
 
-same_block : (m k : Meaning) (a : ℕ) → Alike m k → block k a ≡ block m a
+same_block : (m k : Meaning) (a : ℕ) → SameBlocks m k → block k a ≡ block m a
 same_block m k a l = ap (λ (s : List ℕ). block_of s a) l.sizes
 
 lasts : (m k n : Meaning) (a byte : ℕ) (cs : List Call) → Lawful m → burn_no m a byte ≡ None → Burnt m a byte k
@@ -197,44 +202,44 @@ lasts m k n a byte cs w free t r f =
     let long : size k ≡ size m = ap (λ (y : Meaning). size y) took.is ∙ length-set m.cells a byte in
     let P : ℕ → Type 0 = λ b. (b < count m) × (b ≡ block m a → ⊥) in
     run_keeps k a P (spares a (block m a))
-    (λ j l e p. erased_other j e.block a (omega (arith, p.0, ap length (l.sizes ∙ sizes))) (omega (arith, g.within, long, l.cells))
+    (λ j l e p. erased_other j e.block a (omega (arith, p.0, ap length (l.sizes ∙ sizes))) (omega (arith, g.within, long, l.size))
     (λ q. p.1 (q ∙ same_block k j a l ∙ ap (λ (s : List ℕ). block_of s a) sizes)))
     (λ j l y z q d. q)
     (λ j l b q d. (omega (arith, (erasable j b d).within, ap length (l.sizes ∙ sizes)), q))
-    k n cs r f (alike_same k k refl)
-    (subst (On P) (sym (ap (λ (y : Meaning). y.erasure) took.is)) (nothing_stands m.erasure P g.free)) byte
+    k n cs r f (same_blocks k k refl)
+    (subst (On P) (sym (ap (λ (y : Meaning). y.erasure) took.is)) (nothing_stands m.erasure P (unbarred m (block m a) g.free))) byte
     (ap (λ (y : Meaning). cell y a) took.is ∙ get_or-set_same m.cells a byte 0 g.within)
 
 all_fine : (cs : List Call) → All (λ _. Unit {0}) cs
 all_fine [] = tt
 all_fine (c ∷ cs) = (tt, all_fine cs)
 
-guarded_kept : (m n : Meaning) (cs : List Call) → Lawful m → stands m.erasure ≡ false → Run m cs n
+guarded_kept : (m n : Meaning) (cs : List Call) → Lawful m → stands m ≡ false → Run m cs n
     → (a : ℕ) → a < size m → guarded m (block m a) ≡ true → cell n a ≡ cell m a
 guarded_kept m n cs w s r a h g =
     let P : ℕ → Type 0 = λ b. (b < count m) × (b ≡ block m a → ⊥) in
-    let still_guarded : (k : Meaning) → Alike m k → guarded k (block k a) ≡ true =
+    let still_guarded : (k : Meaning) → SameBlocks m k → guarded k (block k a) ≡ true =
     λ k l. ap (λ (x : List Bool). get_or x (block k a) false) l.guards ∙ ap (guarded m) (same_block m k a l) ∙ g in
     run_keeps m a P (λ _. Unit {0})
-    (λ k l e p. erased_other k e.block a (omega (arith, p.0, ap length l.sizes)) (omega (arith, h, l.cells)) (λ q. p.1 (q ∙ same_block m k a l)))
+    (λ k l e p. erased_other k e.block a (omega (arith, p.0, ap length l.sizes)) (omega (arith, h, l.size)) (λ q. p.1 (q ∙ same_block m k a l)))
     (λ k l x byte f d q. both_ways _ (ap (λ (y : ℕ). guarded k (block k y)) (sym q) ∙ (burnable k x byte d).open_block) (still_guarded k l))
     (λ k l b f d. (
       omega (arith, (erasable k b d).within, ap length l.sizes),
       λ q. both_ways _ (ap (guarded k) (same_block m k a l ∙ sym q) ∙ (erasable k b d).open_block) (still_guarded k l),
     ))
-    m n cs r (all_fine cs) (alike_same m m refl) (nothing_stands m.erasure P s) (cell m a) refl
+    m n cs r (all_fine cs) (same_blocks m m refl) (nothing_stands m.erasure P s) (cell m a) refl
 
 worn_kept : (m n : Meaning) (cs : List Call) → Lawful m → Run m cs n
     → (a : ℕ) → a < size m → worn m (block m a) ≡ true → cell n a ≡ cell m a
 worn_kept m n cs w r a h g =
     let P : ℕ → Type 0 = λ b. b < count m in
-    let still_worn : (k : Meaning) → Alike m k → worn k (block k a) ≡ true =
+    let still_worn : (k : Meaning) → SameBlocks m k → worn k (block k a) ≡ true =
     λ k l. ap (λ (x : List Bool). get_or x (block k a) false) l.wears ∙ ap (worn m) (same_block m k a l) ∙ g in
     run_keeps m a P (λ _. Unit {0})
-    (λ k l e p. erased_worn k e.block a (omega (arith, p, ap length l.sizes)) (omega (arith, h, l.cells)) (still_worn k l))
+    (λ k l e p. erased_worn k e.block a (omega (arith, p, ap length l.sizes)) (omega (arith, h, l.size)) (still_worn k l))
     (λ k l x byte f d q. both_ways _ (ap (λ (y : ℕ). worn k (block k y)) (sym q) ∙ (burnable k x byte d).sound) (still_worn k l))
     (λ k l b f d. omega (arith, (erasable k b d).within, ap length l.sizes))
-    m n cs r (all_fine cs) (alike_same m m refl) (first m.erasure w.erasure) (cell m a) refl
+    m n cs r (all_fine cs) (same_blocks m m refl) (first m.erasure w.erasure) (cell m a) refl
   where
     first : (o : Option Erasure) → ErasureLawful (count m) o → On (λ b. b < count m) o
     first None l = tt
@@ -325,6 +330,7 @@ part_laws = record {
   lasts = lasts;
   guarded_kept = guarded_kept;
   worn_kept = worn_kept;
+  fixed = fixed;
   not_early = not_early;
   held_and_gone = held_and_gone;
   passes_add = passes_add;

@@ -1,4 +1,5 @@
 pub mod Clocks
+pub mod Elapsing
 pub mod Granting
 pub mod Lasting
 pub mod Standings

@@ -1,15 +1,14 @@
 -- The calls of a part: for each input the answer or the refusal, and the whole meaning afterwards. What a call does not name
 -- stays. Free are only the microseconds, inside their limits.
-use Rattle.std.specs.Prelude.{◌≡◌, ℕ, ◌-◌, ◌≤◌, Bool, true, false, cond, ◌||◌, List, Some, None, Ok, Err, Option, Result, ◌==◌, nat_le, nat_lt, slice_index, slice_set}
-use Rattle.refusal.specs.declared.Cause.{Cause}
-use Rattle.refusal.specs.declared.Cause.TheVariants.{AddressOutside, NoSuchBlock, TimeTooLong, ErasureInTheWay, Guarded, NeedsErase, Worn}
-use Rattle.refusal.specs.Numbers.{number_of}
+use Rattle.std.specs.Prelude.{◌≡◌, ℕ, ◌-◌, ◌≤◌, Bool, true, false, if◌then◌else◌, ◌||◌, List, Some, None, Ok, Err, Option, Result, ◌==◌, nat_le, nat_lt, slice_index, slice_set, is_some}
+use Rattle.fault.specs.declared.cause.Cause.{Cause}
+use Rattle.fault.specs.declared.cause.Cause.TheVariants.{AddressOutside, NoSuchBlock, ErasureInTheWay, Guarded, NeedsErase, Worn}
+use Rattle.fault.specs.Causes.{number_of}
 use Rattle.geometry.specs.declared.block.Block.{Block}
 use Rattle.geometry.specs.Blocks.{start_of, wiped}
--- that a byte has a 1 where the cell has a 0, and the longest time of one call, are the chip's
-pub use Rattle.chip.specs.Writes.{needs_erase}
-pub use Rattle.chip.specs.Times.{longest}
-use Rattle.part.specs.declared.fault.PartFault.{PartFault}
+-- that a byte has a 1 where the cell has a 0, and the longest time of one call, are the same in every layer
+pub use Rattle.fault.specs.Limits.{longest, needs_erase, time_no}
+use Rattle.fault.specs.declared.faults.PartFault.{PartFault}
 use Rattle.part.specs.declared.answers.Progress.{Progress}
 use Rattle.part.specs.declared.answers.Progress.TheVariants.{Idle, Running, Suspended, Finished, Worn as Spoilt}
 use Rattle.part.specs.declared.answers.Turn.{Turn}
@@ -24,44 +23,52 @@ answer None place x = Ok x
 answer (Some cause) place x = Err (record { cause = cause; place = place })
 
 -- an erasure stands, running or not
-abbrev pub stands : Option Erasure → Bool
-stands None = false
-stands (Some e) = true
+abbrev pub stands : Meaning → Bool
+stands m = is_some m.erasure
 
 -- an erasure runs
-abbrev pub runs : Option Erasure → Bool
-runs None = false
-runs (Some e) = e.running
+abbrev pub running : Option Erasure → Bool
+running None = false
+running (Some e) = e.running
 
--- an erasure hides a block: all blocks while it runs, its own while it is suspended
-abbrev pub hides : Option Erasure → ℕ → Bool
-hides None b = false
-hides (Some e) b = e.running || e.block == b
+abbrev pub runs : Meaning → Bool
+runs m = running m.erasure
+
+-- The two questions that an erasure raises about a block. Each is answered here alone; what follows from an answer stands in laws about these names.
+
+-- No cell of block b can be peeked now: an erasure that runs hides every block, and one that is suspended its own.
+abbrev pub hidden_by : Option Erasure → ℕ → Bool
+hidden_by None b = false
+hidden_by (Some e) b = e.running || e.block == b
+
+unfoldable pub hides : Meaning → ℕ → Bool
+hides m b = hidden_by m.erasure b
+
+-- No cell of block b can be burnt now: an erasure bars every block, whether it runs or is suspended.
+unfoldable pub bars : Meaning → ℕ → Bool
+bars m b = stands m
 
 abbrev pub outside : Meaning → ℕ → Bool
 outside m a = nat_le (size m) a
 
 abbrev pub peek_no : Meaning → ℕ → Option Cause
 peek_no m a =
-    cond (outside m a) (Some AddressOutside)
-    (cond (hides m.erasure (block m a)) (Some ErasureInTheWay) None)
+    if outside m a then Some AddressOutside else
+    if hides m (block m a) then Some ErasureInTheWay else None
 
 abbrev pub burn_no : Meaning → ℕ → ℕ → Option Cause
 burn_no m a byte =
-    cond (outside m a) (Some AddressOutside)
-    (cond (stands m.erasure) (Some ErasureInTheWay)
-    (cond (guarded m (block m a)) (Some Guarded)
-    (cond (needs_erase (cell m a) byte) (Some NeedsErase)
-    (cond (worn m (block m a)) (Some Worn) None))))
+    if outside m a then Some AddressOutside else
+    if bars m (block m a) then Some ErasureInTheWay else
+    if guarded m (block m a) then Some Guarded else
+    if needs_erase (cell m a) byte then Some NeedsErase else
+    if worn m (block m a) then Some Worn else None
 
 abbrev pub begin_no : Meaning → ℕ → Option Cause
 begin_no m b =
-    cond (nat_le (count m) b) (Some NoSuchBlock)
-    (cond (stands m.erasure) (Some ErasureInTheWay)
-    (cond (guarded m b) (Some Guarded) None))
-
-abbrev pub pass_no : ℕ → Option Cause
-pass_no n = cond (nat_le n longest) None (Some TimeTooLong)
+    if nat_le (count m) b then Some NoSuchBlock else
+    if stands m then Some ErasureInTheWay else
+    if guarded m b then Some Guarded else None
 
 -- Meanings afterwards.
 
@@ -101,16 +108,16 @@ Begun m b n = BegunBy m b (begin_no m b) n
 
 -- the erasure runs, or stands still
 abbrev pub set_running : Bool → Erasure → Erasure
-set_running r e = record { block = e.block; left = e.left; running = r }
+set_running r e = record e { running = r }
 
 -- whether there is something to hold, and something to go on with
 abbrev pub can_hold : Option Erasure → Turn
 can_hold None = Nothing
-can_hold (Some e) = cond e.running Done Nothing
+can_hold (Some e) = if e.running then Done else Nothing
 
 abbrev pub can_go : Option Erasure → Turn
 can_go None = Nothing
-can_go (Some e) = cond e.running Nothing Done
+can_go (Some e) = if e.running then Nothing else Done
 
 abbrev pub turned : Bool → Option Erasure → Option Erasure
 turned r None = None
@@ -130,17 +137,16 @@ gone_on m = with_erasure m (turned true m.erasure)
 
 -- the cells after the erasure of block b has ended: FFh throughout the block, unless it is worn
 abbrev pub erased : Meaning → ℕ → List ℕ
-erased m b = cond (worn m b) m.cells (wiped m.sizes b 0xFF m.cells)
+erased m b = if worn m b then m.cells else wiped m.sizes b 0xFF m.cells
 
 -- what n microseconds do to an erasure
 abbrev pub run_on : Meaning → ℕ → Option Erasure → Meaning
 run_on m n None = m
 run_on m n (Some e) =
-    cond e.running
-    (cond (nat_lt n e.left)
-    (with_erasure m (Some (record { block = e.block; left = e.left - n; running = true })))
-    (with_erasure (with_cells m (erased m e.block)) None))
-    m
+    if e.running then
+    (if nat_lt n e.left then with_erasure m (Some (record { block = e.block; left = e.left - n; running = true }))
+    else with_erasure (with_cells m (erased m e.block)) None)
+    else m
 
 -- pass moves the clock by n and lets a running erasure come nearer to its end, or end.
 abbrev pub passed : Meaning → ℕ → Meaning
@@ -149,13 +155,13 @@ passed m n = ticked (run_on m n m.erasure) n
 abbrev pub progress : Meaning → ℕ → Option Erasure → Progress
 progress m n None = Idle
 progress m n (Some e) =
-    cond e.running (cond (nat_lt n e.left) Running (cond (worn m e.block) Spoilt Finished)) Suspended
+    if e.running then (if nat_lt n e.left then Running else if worn m e.block then Spoilt else Finished) else Suspended
 
 abbrev pub after_pass : Meaning → ℕ → Meaning
-after_pass m n = cond (nat_le n longest) (passed m n) m
+after_pass m n = if nat_le n longest then passed m n else m
 
 -- Questions.
 
 -- where block b begins and how many bytes it has
 abbrev pub block_at : Meaning → ℕ → Option Block
-block_at m b = cond (nat_lt b (count m)) (Some (record { start = start_of m.sizes b; size = slice_index m.sizes b })) None
+block_at m b = if nat_lt b (count m) then Some (record { start = start_of m.sizes b; size = slice_index m.sizes b }) else None

@@ -40,16 +40,25 @@ abbrev pub AllSpare : ℕ → ℕ → List Call → Type 0
 AllSpare a b [] = Unit {0}
 AllSpare a b (c ∷ cs) = spares a b c × AllSpare a b cs
 
+-- the same blocks, with the same guards and worn ones, and as many cells
+pub record SameBlocks (m n : Meaning) : Type 0 where
+  pub sizes : n.sizes ≡ m.sizes
+  pub guards : n.guards ≡ m.guards
+  pub wears : n.wears ≡ m.wears
+  pub size : size n ≡ size m
+
 pub record PartLaws : Type 0 where
   -- What was burnt is in the cell until the cell is burnt again or its block is erased.
   pub lasts : (m k n : Meaning) (a byte : ℕ) (cs : List Call) → Lawful m → burn_no m a byte ≡ None → Burnt m a byte k
       → Run k cs n → AllSpare a (block m a) cs → cell n a ≡ byte
   -- Guarded blocks keep their cells, from any moment at which no erasure stands.
-  pub guarded_kept : (m n : Meaning) (cs : List Call) → Lawful m → stands m.erasure ≡ false → Run m cs n
+  pub guarded_kept : (m n : Meaning) (cs : List Call) → Lawful m → stands m ≡ false → Run m cs n
       → (a : ℕ) → a < size m → guarded m (block m a) ≡ true → cell n a ≡ cell m a
   -- Worn blocks keep their cells.
   pub worn_kept : (m n : Meaning) (cs : List Call) → Lawful m → Run m cs n
       → (a : ℕ) → a < size m → worn m (block m a) ≡ true → cell n a ≡ cell m a
+  -- Where the blocks lie, and which are guarded and worn, never changes; nor does the number of cells.
+  pub fixed : (m n : Meaning) (cs : List Call) → Run m cs n → SameBlocks m n
   -- An erasure never ends early: a pass that does not reach what was left answers that it runs.
   pub not_early : (m : Meaning) (e : Erasure) (n : ℕ) → m.erasure ≡ Some e → e.running ≡ true → n < e.left
       → progress m n m.erasure ≡ Running

@@ -1,6 +1,6 @@
 pub mod Calls
-pub mod Faults
 pub mod Laws
 pub mod Meaning
+pub mod Neighbours
 pub mod Standings
 pub mod Words

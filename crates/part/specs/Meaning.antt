@@ -1,5 +1,5 @@
 -- What a part means.
-use Rattle.std.specs.Prelude.{◌≡◌, ℕ, ◌+◌, ◌%◌, ◌<◌, ◌≤◌, Bool, false, cond, List, length, Some, None, Option, slice_index, slice_index_or}
+use Rattle.std.specs.Prelude.{◌≡◌, ℕ, ◌+◌, ◌%◌, ◌<◌, ◌≤◌, Bool, false, if◌then◌else◌, List, length, Some, None, Option, slice_index, slice_index_or}
 use Rattle.geometry.specs.Blocks.{total, block_of}
 use Rattle.part.specs.declared.answers.Standing.{Standing}
 use Rattle.part.specs.declared.answers.Standing.TheVariants.{Idle, Running, Suspended}
@@ -41,26 +41,19 @@ abbrev pub worn : Meaning → ℕ → Bool
 worn m b = slice_index_or m.wears b false
 
 abbrev pub with_cells : Meaning → List ℕ → Meaning
-with_cells m cells = record { cells = cells; sizes = m.sizes; guards = m.guards; wears = m.wears; erasure = m.erasure; clock = m.clock }
+with_cells m cells = record m { cells = cells }
 
 abbrev pub with_erasure : Meaning → Option Erasure → Meaning
-with_erasure m e = record { cells = m.cells; sizes = m.sizes; guards = m.guards; wears = m.wears; erasure = e; clock = m.clock }
+with_erasure m e = record m { erasure = e }
 
 -- the same with the clock moved by n
 abbrev pub ticked : Meaning → ℕ → Meaning
-ticked m n = record {
-  cells = m.cells;
-  sizes = m.sizes;
-  guards = m.guards;
-  wears = m.wears;
-  erasure = m.erasure;
-  clock = (m.clock + n) % 4294967296;
-}
+ticked m n = record m { clock = (m.clock + n) % 4294967296 }
 
 -- which erasure stands, without its time
 abbrev pub standing_of : Option Erasure → Standing
 standing_of None = Idle
-standing_of (Some e) = cond e.running (Running e.block) (Suspended e.block)
+standing_of (Some e) = if e.running then Running e.block else Suspended e.block
 
 abbrev pub shape_of : Meaning → Shape
 shape_of m = record { size = size m; blocks = count m; standing = standing_of m.erasure }
@@ -70,12 +63,12 @@ abbrev pub ErasureLawful : ℕ → Option Erasure → Type 0
 ErasureLawful blocks None = Unit {0}
 ErasureLawful blocks (Some e) = (e.block < blocks) × (1 ≤ e.left)
 
--- What holds of every part: its blocks follow one another from 0 without gap or overlap and end at its size, it is not
--- larger than 16,777,216 bytes and 1,024 blocks, and each block is known to be guarded or not and worn or not.
+-- What holds of every part: its blocks follow one another from 0 without gap or overlap and end at its size, its size and the number of its blocks
+-- are numbers of 32 bits, as its addresses and block numbers are, and each block is known to be guarded or not and worn or not.
 pub record Lawful (m : Meaning) : Type 0 where
   pub whole : total m.sizes ≡ length m.cells
-  pub small : length m.cells ≤ 16777216
-  pub few : length m.sizes ≤ 1024
+  pub small : length m.cells < 4294967296
+  pub few : length m.sizes < 4294967296
   pub guards : length m.guards ≡ length m.sizes
   pub wears : length m.wears ≡ length m.sizes
   pub erasure : ErasureLawful (length m.sizes) m.erasure

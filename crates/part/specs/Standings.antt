@@ -1,8 +1,8 @@
 -- What an erasure bars, by what a part tells at a glance.
-use Rattle.std.specs.Prelude.{ℕ, Bool, true, false, cond, Some, None, Option, ◌==◌, nat_le}
-use Rattle.refusal.specs.declared.Cause.{Cause}
-use Rattle.refusal.specs.declared.Cause.TheVariants.{NoSuchBlock, ErasureInTheWay, Guarded, NeedsErase}
-use Rattle.chip.specs.Writes.{needs_erase}
+use Rattle.std.specs.Prelude.{ℕ, Bool, true, false, if◌then◌else◌, Some, None, Option, ◌==◌, nat_le}
+use Rattle.fault.specs.declared.cause.Cause.{Cause}
+use Rattle.fault.specs.declared.cause.Cause.TheVariants.{NoSuchBlock, ErasureInTheWay, Guarded, NeedsErase}
+use Rattle.fault.specs.Limits.{needs_erase}
 use Rattle.part.specs.declared.answers.Shape.{Shape}
 use Rattle.part.specs.declared.answers.Standing.{Standing}
 use Rattle.part.specs.declared.answers.Standing.TheVariants.{Idle, Running, Suspended}
@@ -25,16 +25,20 @@ hid Idle b = false
 hid (Running own) b = true
 hid (Suspended own) b = own == b
 
+-- an erasure bars a burn: in every block, whether it runs or is suspended
+abbrev pub barred : Standing → ℕ → Bool
+barred s b = stood s
+
 -- why a burn of a byte over a cell that is `old` is refused, at an address inside, worn blocks aside
-abbrev pub standing_burn_no : Standing → Bool → ℕ → ℕ → Option Cause
-standing_burn_no s guarded old byte =
-    cond (stood s) (Some ErasureInTheWay)
-    (cond guarded (Some Guarded)
-    (cond (needs_erase old byte) (Some NeedsErase) None))
+abbrev pub burn_why : Bool → Bool → ℕ → ℕ → Option Cause
+burn_why barred guarded old byte =
+    if barred then Some ErasureInTheWay else
+    if guarded then Some Guarded else
+    if needs_erase old byte then Some NeedsErase else None
 
 -- why a part of a shape refuses to begin the erasure of block b
 abbrev pub shape_begin_no : Shape → ℕ → Bool → Option Cause
 shape_begin_no s b guarded =
-    cond (nat_le s.blocks b) (Some NoSuchBlock)
-    (cond (stood s.standing) (Some ErasureInTheWay)
-    (cond guarded (Some Guarded) None))
+    if nat_le s.blocks b then Some NoSuchBlock else
+    if stood s.standing then Some ErasureInTheWay else
+    if guarded then Some Guarded else None

@@ -1,10 +1,9 @@
 // What the calls of a part answer.
 ghost use Rattle.std.specs.Prelude.{◌≡◌, Some};
-ghost use Rattle.part.specs.Standings.{stood, ran, hid, standing_burn_no, shape_begin_no};
+ghost use Rattle.part.specs.Standings.{stood, ran, hid, barred, burn_why, shape_begin_no};
 ghost use Rattle.part.specs.Words.{progress_text};
 
-use chip::needs_erase;
-use refusal::Cause;
+use fault::{Cause, needs_erase};
 use std::fmt;
 
 /// What a pass found.
@@ -66,21 +65,6 @@ impl Standing {
         matches!(self, Standing::Running(_))
     }
 
-    /// Why a burn is refused at an address inside, whose cell is `old`, worn blocks aside; none where it is not.
-    pub fn burn_no(self, guarded: bool, old: u8, byte: u8) -> Option<Cause>
-        ensures { result ≡ standing_burn_no self guarded old byte }
-    {
-        if self.stands() {
-            Some(Cause::ErasureInTheWay)
-        } else if guarded {
-            Some(Cause::Guarded)
-        } else if needs_erase(old, byte) {
-            Some(Cause::NeedsErase)
-        } else {
-            None
-        }
-    }
-
     /// Whether the cells of a block are hidden: of every block while an erasure runs, of its own while it is suspended.
     pub fn hides(self, block: u32) -> bool
         ensures { result ≡ hid self block }
@@ -90,6 +74,28 @@ impl Standing {
             Standing::Running(_) => true,
             Standing::Suspended(own) => own == block,
         }
+    }
+
+    /// Whether no cell of a block can be burnt: an erasure bars every block, whether it runs or is suspended.
+    pub fn bars(self, _block: u32) -> bool
+        ensures { result ≡ barred self _block }
+    {
+        self.stands()
+    }
+}
+
+/// Why a burn is refused at an address inside, whose cell is `old`, worn blocks aside; none where it is not. `barred` tells whether an erasure bars it.
+pub fn burn_why(barred: bool, guarded: bool, old: u8, byte: u8) -> Option<Cause>
+    ensures { result ≡ burn_why barred guarded old byte }
+{
+    if barred {
+        Some(Cause::ErasureInTheWay)
+    } else if guarded {
+        Some(Cause::Guarded)
+    } else if needs_erase(old, byte) {
+        Some(Cause::NeedsErase)
+    } else {
+        None
     }
 }
 

@@ -1,8 +1,7 @@
 ghost use Rattle.std.specs.Prelude.{◌≡◌};
 ghost use Rattle.part.specs.Calls.{answer};
 
-use crate::fault::PartFault;
-use refusal::Cause;
+use fault::{Cause, PartFault};
 
 /// Grants a call for which there is no cause of refusal, or refuses it with the place that the caller gave. A cause is an `Option`, and no
 /// `Result`, since the definitions of the calls go by it, both for the answer and for what is left afterwards.

@@ -3,12 +3,11 @@
 #![tactic(auto)]
 
 mod answers;
-mod fault;
 mod grant;
+mod neighbour;
 mod part;
-mod raise;
 
-pub use answers::{Progress, Shape, Standing, Turn};
-pub use fault::PartFault;
+pub use answers::{Progress, Shape, Standing, Turn, burn_why};
 pub use grant::granted;
+pub use neighbour::{catch_up, let_pass};
 pub use part::Part;

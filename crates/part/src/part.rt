@@ -1,9 +1,9 @@
 ghost use Rattle.std.specs.Prelude.{◌≡◌};
 ghost use Rattle.part.specs.Meaning.{Meaning, Lawful, cell, guarded, shape_of};
-ghost use Rattle.part.specs.Calls.{answer, peek_no, burn_no, begin_no, pass_no, Burnt, Begun, Held, can_hold, can_go, gone_on, progress, after_pass, block_at};
+ghost use Rattle.part.specs.Calls.{answer, peek_no, burn_no, begin_no, time_no, Burnt, Begun, Held, can_hold, can_go, gone_on, progress, after_pass, block_at};
 
 use crate::answers::{Progress, Shape, Turn};
-use crate::fault::PartFault;
+use fault::PartFault;
 use geometry::Block;
 
 pub trait Part {
@@ -52,7 +52,7 @@ pub trait Part {
 
     /// Lets n microseconds pass, and says what became of the erasure.
     fn pass(&mut self, n: u32) -> Result<Progress, PartFault>
-        ensures answer { result ≡ answer (pass_no n) n (progress (means self.old) n (means self.old).erasure) }
+        ensures answer { result ≡ answer (time_no n) n (progress (means self.old) n (means self.old).erasure) }
         ensures passed { means self.new ≡ after_pass (means self.old) n };
 
     ghost lawful: { (s : Self) → Lawful (means s) };

@@ -1,6 +1,6 @@
 -- Why a pile is not made.
 use Rattle.std.specs.Prelude.{◌≡◌, ℕ, true, cond, not, List, [], ◌∷◌, length, Some, None, Ok, Err, Option, Result, nat_le, position}
-use Rattle.refusal.specs.declared.Cause.TheVariants.{UnfitMaking}
+use Rattle.fault.specs.declared.cause.Cause.TheVariants.{UnfitMaking}
 use Rattle.pile.specs.declared.kind.Kind.{Kind}
 use Rattle.pile.specs.declared.unmade.Unmade.{Unmade}
 use Rattle.pile.specs.declared.unmade.Unmade.TheVariants.{TooMany, Refused, Memory}

@@ -9,8 +9,8 @@ use crate::one_of::OneOf;
 use crate::pile::{Piece, Pile};
 use crate::unmade::Unmade;
 use joined::Joined;
-use part::{Part, PartFault};
-use refusal::Cause;
+use fault::{Cause, PartFault};
+use part::Part;
 use std::alloc::{AllocError, Global};
 
 // The most pieces that a pile has behind its first.

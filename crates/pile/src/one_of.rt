@@ -1,5 +1,6 @@
 use geometry::Block;
-use part::{Part, PartFault, Progress, Shape, Turn};
+use fault::PartFault;
+use part::{Part, Progress, Shape, Turn};
 
 /// One of two kinds of part, again a part: each call is the call of the part that it is.
 #[derive(Drop)]

@@ -1,7 +1,7 @@
 ghost use Rattle.std.specs.Prelude.{◌≡◌};
 ghost use Rattle.pile.specs.declared.unmade.Unmade.TheVariants.{Memory};
 
-use part::PartFault;
+use fault::PartFault;
 use std::alloc::AllocError;
 
 /// Why a pile was not made.

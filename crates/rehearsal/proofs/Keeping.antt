@@ -8,7 +8,7 @@ use Rattle.book.specs.Finding.{width, positions_of}
 use Rattle.book.proofs.Seats.{Seated}
 use Rattle.book.proofs.Ground.{seated_in}
 pub use Rattle.book.proofs.Opening.{Rest, ready, erasing, spoilt, InBlocks}
-use Rattle.console.specs.declared.fault.ConsoleFault.{ConsoleFault}
+use Rattle.fault.specs.declared.faults.ConsoleFault.{ConsoleFault}
 use Rattle.console.specs.declared.answers.Answer.{Answer}
 use Rattle.console.specs.declared.call.Call.{Call}
 use Rattle.console.specs.Desks.{Desk, opened, between}

@@ -2,7 +2,7 @@
 use Rattle.std.proofs.Common.{◌≡◌, ℕ, zero, suc, ◌+◌, ◌-◌, ◌<◌, ◌≤◌, Bool, true, false, cond, leb, Some, None, Ok, Err, Option, Result, sym, refl, ap, ◌∙◌, subst, ap₂, arith}
 use Rattle.std.specs.Prelude.{is_ok}
 use Rattle.std.proofs.lemmas.Bool.{and_parts, ne_eqb, leb-true, cond-true, cond-false}
-use Rattle.refusal.specs.declared.Cause.TheVariants.{PositionOutside}
+use Rattle.fault.specs.declared.cause.Cause.TheVariants.{PositionOutside}
 use Rattle.part.specs.Meaning.{Erasure, Meaning, with_erasure, ticked, Lawful}
 use Rattle.part.specs.Calls.{Took, hides, can_hold, turned, HeldBy, Held, gone_on}
 use Rattle.part.proofs.Clocks.{ticked_none}
@@ -13,7 +13,7 @@ use Rattle.book.specs.Pairs.{Pair}
 use Rattle.book.proofs.Seats.{Seated}
 use Rattle.book.proofs.Ground.{seated_in}
 use Rattle.book.proofs.Effects.{reads}
-use Rattle.console.specs.declared.fault.ConsoleFault.{ConsoleFault}
+use Rattle.fault.specs.declared.faults.ConsoleFault.{ConsoleFault}
 use Rattle.console.specs.declared.answers.Recalled.{Recalled}
 use Rattle.console.specs.declared.answers.Found.{Found}
 use Rattle.console.specs.declared.answers.Said.{Said}

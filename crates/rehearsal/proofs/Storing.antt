@@ -2,9 +2,9 @@
 use Rattle.std.proofs.Common.{◌≡◌, ℕ, ◌+◌, ◌<◌, ◌≤◌, Bool, true, false, cond, eqb, leb, List, length, get_or, Some, None, Ok, Err, Option, Result, sym, refl, ap, ◌∙◌, subst, inl, inr, arith}
 use Rattle.std.specs.Prelude.{is_ok}
 use Rattle.std.proofs.lemmas.Bool.{cases_Bool, ltb-true, leb-true, and_parts, and_from, eqb-true, lt-leb, cond-true, cond-false, both_ways, eqb-false}
-use Rattle.refusal.specs.declared.Cause.{Cause}
-use Rattle.refusal.specs.declared.Cause.TheVariants.{PositionOutside, StopOutside}
-use Rattle.part.specs.declared.fault.PartFault.{PartFault}
+use Rattle.fault.specs.declared.cause.Cause.{Cause}
+use Rattle.fault.specs.declared.cause.Cause.TheVariants.{PositionOutside, StopOutside}
+use Rattle.fault.specs.declared.faults.PartFault.{PartFault}
 use Rattle.part.specs.Meaning.{Erasure, Meaning, count, worn, with_cells, with_erasure, ticked}
 use Rattle.part.specs.Calls.{answer, stands, hides, begin_no, BegunBy, Started}
 use Rattle.book.specs.Pages.{page_at, used, shown, page_of, blank, readable_page, readable_pages, readable_book}
@@ -16,7 +16,7 @@ use Rattle.book.proofs.Seats.{SameOutside, SameInside, StopsFit}
 use Rattle.book.proofs.Ground.{seated_in, seated_changed}
 use Rattle.book.proofs.Lines.{same_clear, same_wider}
 use Rattle.book.proofs.Effects.{reads, blank_same, shown_same, page_same, pages_at, pages_from, page_apart, books_apart_back, WornRefused, line_done, line_worn, copy_done, copy_worn}
-use Rattle.console.specs.declared.fault.ConsoleFault.{ConsoleFault}
+use Rattle.fault.specs.declared.faults.ConsoleFault.{ConsoleFault}
 use Rattle.console.specs.declared.answers.Said.{Said}
 use Rattle.console.specs.declared.answers.Said.TheVariants.{Done}
 use Rattle.console.specs.Desks.{Desk, opened, moved}

@@ -1,9 +1,9 @@
 -- What a list of calls leaves at each position, and what its calls answer, by a table of the positions alone.
 use Rattle.std.proofs.Common.{◌≡◌, ℕ, zero, suc, ◌+◌, ◌-◌, ◌≤◌, Bool, cond, ◌&&◌, eqb, leb, ltb, List, [], ◌∷◌, Some, None, Ok, Err, Option, Result}
 use Rattle.std.specs.Prelude.{is_ok}
-use Rattle.refusal.specs.declared.Cause.TheVariants.{PositionOutside, StopOutside, TimeTooLong}
+use Rattle.fault.specs.declared.cause.Cause.TheVariants.{PositionOutside, StopOutside, TimeTooLong}
 use Rattle.part.specs.Calls.{longest}
-use Rattle.console.specs.declared.fault.ConsoleFault.{ConsoleFault}
+use Rattle.fault.specs.declared.faults.ConsoleFault.{ConsoleFault}
 use Rattle.console.specs.declared.answers.Answer.{Answer}
 use Rattle.console.specs.declared.answers.Said.{Said}
 use Rattle.console.specs.declared.answers.Said.TheVariants.{Done, Shows, Finds}

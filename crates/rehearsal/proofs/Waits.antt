@@ -12,7 +12,7 @@ use Rattle.book.specs.Pairs.{Pair, book_size, spoilt_if}
 use Rattle.book.proofs.Seats.{SameInside}
 use Rattle.book.proofs.Ground.{seated_in}
 use Rattle.book.proofs.Effects.{blank_same, shown_same, pages_same, page_inside, erased_spare, erased_current}
-use Rattle.console.specs.declared.fault.ConsoleFault.{ConsoleFault}
+use Rattle.fault.specs.declared.faults.ConsoleFault.{ConsoleFault}
 use Rattle.console.specs.declared.answers.Answer.{Answer}
 use Rattle.console.specs.declared.call.Call.TheVariants.{Wait}
 use Rattle.console.specs.Desks.{Desk, opened}

@@ -3,12 +3,12 @@ use Rattle.std.proofs.Common.{◌≡◌, ℕ, ◌+◌, ◌<◌, ◌≤◌, Bool,
 use lib.Count.{count_trailing_zeros}
 use Rattle.std.proofs.lemmas.List.{length-set, get_or-set_same, get_or-set_other}
 use Rattle.std.proofs.lemmas.Bool.{cases_Bool, and_parts, and_from, ltb-true, leb-true, le-leb, lt-ltb, lt-leb, eqb-true, eqb-false, cond-true, cond-false}
-use Rattle.refusal.specs.declared.Cause.{Cause}
+use Rattle.fault.specs.declared.cause.Cause.{Cause}
 use Rattle.geometry.specs.Blocks.{total, start_of, block_of}
 use Rattle.geometry.specs.Plans.{bench}
 use Rattle.chip.specs.Examples as chips
 use Rattle.chip.proofs.Worked as chip_proofs
-use Rattle.part.specs.declared.fault.PartFault.{PartFault}
+use Rattle.fault.specs.declared.faults.PartFault.{PartFault}
 use Rattle.part.specs.Meaning.{Erasure, Meaning, size, count, cell, worn, guarded, with_cells, ticked}
 use Rattle.part.specs.Calls.{answer, stands, hides, burn_no, Burnt, Took, BurntBy}
 use Rattle.part.proofs.Clocks.{ticked_more}
@@ -24,7 +24,7 @@ use Rattle.book.proofs.Tallies.{clears_zero}
 use Rattle.book.proofs.Effects.{reads, pages_at, LineDone, line_done, fresh_book}
 use Rattle.book.proofs.Seating.{no_cause}
 use Rattle.book.proofs.LawsOfBooks.{write_laws}
-use Rattle.console.specs.declared.fault.ConsoleFault.{ConsoleFault}
+use Rattle.fault.specs.declared.faults.ConsoleFault.{ConsoleFault}
 use Rattle.console.specs.declared.call.Call.{Call}
 use Rattle.console.specs.declared.call.Call.TheVariants.{Set, Clear}
 use Rattle.console.specs.Desks.{Desk, closed, opened, moved}

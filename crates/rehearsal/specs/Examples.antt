@@ -3,7 +3,7 @@ use Rattle.std.specs.Prelude.{◌≡◌, ℕ, ◌+◌, true, false, List, [], �
 use Rattle.geometry.specs.Plans.{bench}
 use Rattle.chip.specs.Examples as chips
 use Rattle.part.specs.Meaning.{Meaning, guarded, Lawful}
-use Rattle.console.specs.declared.fault.ConsoleFault.{ConsoleFault}
+use Rattle.fault.specs.declared.faults.ConsoleFault.{ConsoleFault}
 use Rattle.console.specs.declared.call.Call.{Call}
 use Rattle.console.specs.declared.call.Call.TheVariants.{Set, Clear}
 use Rattle.console.specs.Desks.{Desk, closed}

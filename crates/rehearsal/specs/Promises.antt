@@ -5,7 +5,7 @@ use Rattle.part.specs.Meaning.{Meaning, worn, Lawful}
 use Rattle.part.specs.Calls.{longest}
 use Rattle.book.specs.Pages.{blank}
 use Rattle.book.specs.Finding.{begins, width, positions_of}
-use Rattle.console.specs.declared.fault.ConsoleFault.{ConsoleFault}
+use Rattle.fault.specs.declared.faults.ConsoleFault.{ConsoleFault}
 use Rattle.console.specs.declared.answers.Answer.{Answer}
 use Rattle.console.specs.declared.answers.Said.{Said}
 use Rattle.console.specs.declared.answers.Said.TheVariants.{Shows, Finds}

@@ -1,5 +1,5 @@
 use crate::line::Line;
-use console::ConsoleFault;
+use fault::ConsoleFault;
 
 /// The two blocks of a part on which a console is opened.
 #[derive(Clone, Copy)]

@@ -1,4 +1,5 @@
-use console::{Answer, ConsoleFault};
+use fault::ConsoleFault;
+use console::Answer;
 
 /// One call of an account: the answer, and the part's clock before and after it.
 #[derive(Clone, Copy)]

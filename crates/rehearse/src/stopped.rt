@@ -1,4 +1,4 @@
-use part::PartFault;
+use fault::PartFault;
 use script::{Complaint, Unread};
 use std::alloc::{AllocError, AllocFailed};
 use std::{fmt, io};

@@ -3,7 +3,7 @@ use Rattle.std.specs.Prelude.{◌≡◌, ℕ, Result, Ok, Err}
 use Rattle.rehearsal.specs.Promises.{Same}
 use Rattle.script.specs.declared.replies.Reply.{Reply}
 use Rattle.script.specs.declared.replies.Reply.TheVariants.{Opened, Called, Quiet}
-use Rattle.console.specs.declared.fault.ConsoleFault.{ConsoleFault}
+use Rattle.fault.specs.declared.faults.ConsoleFault.{ConsoleFault}
 
 -- both were accepted, or both were refused with one fault
 abbrev pub SameOpening : Result ℕ ConsoleFault → Result ℕ ConsoleFault → Type 0

@@ -3,7 +3,8 @@ ghost use Rattle.std.specs.Prelude.{◌≡◌, ◌↔◌, IsTrue};
 ghost use Rattle.rehearsal.specs.Promises.{Same};
 ghost use Rattle.script.specs.Alike.{SameOpening};
 
-use console::{Answer, ConsoleFault, Said};
+use fault::ConsoleFault;
+use console::{Answer, Said};
 
 fn same_fault(a: ConsoleFault, b: ConsoleFault) -> bool
     ensures { IsTrue result ↔ (a ≡ b) }

@@ -5,7 +5,8 @@ ghost use Rattle.script.specs.Alike.{SameReply};
 
 use crate::alike::{same_opening, same_reply};
 use crate::answers::{CallReply, OpenReply, QuietReply};
-use console::{Answer, ConsoleFault};
+use fault::ConsoleFault;
+use console::Answer;
 use std::fmt;
 
 /// What a console answers to a request.

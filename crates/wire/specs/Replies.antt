@@ -1,8 +1,8 @@
 -- What the chip on the wire answers, and the text of it.
 use Rattle.std.specs.Prelude.{◌≡◌, ℕ, ◌/◌, ◌%◌, List, [], ◌∷◌, ◌++◌, Result, Ok, Err, true, codes}
 use Rattle.std.specs.Fmt.{decimal, digit_glyph}
-use Rattle.refusal.specs.Numbers.{number_of}
-use Rattle.chip.specs.declared.fault.ChipFault.{ChipFault}
+use Rattle.fault.specs.Causes.{number_of}
+use Rattle.fault.specs.declared.faults.ChipFault.{ChipFault}
 use Rattle.chip.specs.Flash.{Flash}
 use Rattle.chip.specs.Writes.{heard, written}
 use Rattle.chip.specs.Reads.{answered, seen}

@@ -1,7 +1,7 @@
 ghost use Rattle.std.specs.Prelude.{Some};
 ghost use Rattle.wire.specs.Replies.{reply_text};
 
-use chip::ChipFault;
+use fault::ChipFault;
 use naming::Wrong;
 use std::fmt;
 

@@ -5,7 +5,8 @@ ghost use Rattle.wire.specs.Replies.{done, told, Answers, Serves};
 
 use crate::reply::Reply;
 use crate::request::Request;
-use chip::{Chip, ChipFault};
+use fault::ChipFault;
+use chip::Chip;
 
 impl Reply {
     // ok, or the refusal.

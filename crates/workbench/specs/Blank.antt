@@ -1,6 +1,6 @@
 -- A chip as it comes from the factory: FFh throughout.
 use Rattle.std.specs.Prelude.{◌≡◌, ◌*◌, true, replicate, Ok, Err, Result, ◌≢◌}
-use Rattle.refusal.specs.declared.Cause.TheVariants.{UnfitMaking}
+use Rattle.fault.specs.declared.cause.Cause.TheVariants.{UnfitMaking}
 use Rattle.geometry.specs.Plans.{plan_of}
 use Rattle.chip.specs.declared.chip.Chip.{Chip}
 use Rattle.chip.specs.declared.setup.Setup.{Setup}

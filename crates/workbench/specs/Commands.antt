@@ -1,6 +1,6 @@
 -- The command sequences: what each answers, and the chip after it. A chip that lacks the address 5555h refuses the first write.
 use Rattle.std.specs.Prelude.{ℕ, cond, Result}
-use Rattle.chip.specs.declared.fault.ChipFault.{ChipFault}
+use Rattle.fault.specs.declared.faults.ChipFault.{ChipFault}
 use Rattle.chip.specs.Flash.{Flash, inside}
 use Rattle.chip.specs.Writes.{heard, written}
 use Rattle.chip.specs.Laws.{unlocked}

@@ -6,7 +6,8 @@ ghost use Rattle.chip.specs.Flash.{view};
 ghost use Rattle.chip.specs.Writes.{heard};
 ghost use Rattle.workbench.specs.Commands.{after_unlock, after_command, sequence_heard, after_program, after_erase};
 
-use chip::{Chip, ChipFault, FIRST, SECOND};
+use fault::ChipFault;
+use chip::{Chip, FIRST, SECOND};
 
 // The two unlocking writes.
 fn unlock(chip: &mut Chip) -> Result<(), ChipFault>

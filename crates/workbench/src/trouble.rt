@@ -1,9 +1,7 @@
 ghost use Rattle.std.specs.Prelude.{◌≡◌};
 ghost use Rattle.workbench.specs.declared.trouble.Trouble.TheVariants.{Chip, Part, Console, Memory, Output};
 
-use chip::ChipFault;
-use console::ConsoleFault;
-use part::PartFault;
+use fault::{ChipFault, ConsoleFault, PartFault};
 use std::alloc::AllocError;
 use std::io;
 

@@ -1,6 +1,6 @@
 use Rattle.std.proofs.Common.{◌+◌, List, Ok, Err, Result, sym, ap, ◌∙◌, subst, arith}
 use Rattle.std.proofs.lemmas.Result.{err_from_is_err_and}
-use Rattle.part.specs.declared.fault.PartFault.{PartFault}
+use Rattle.fault.specs.declared.faults.PartFault.{PartFault}
 use Rattle.book.specs.Burning.{Step, Ran, done, bytes_burnt}
 use Rattle.book.proofs.Steps.{bytes_none, bytes_by, bytes_off}
 use Rattle.book.proofs.write.burn_line.Goals as goal

@@ -1,6 +1,6 @@
 use Rattle.std.proofs.Common.{Err, Result, sym, ap, ◌∙◌, subst}
 use Rattle.std.proofs.lemmas.Result.{err_from_is_err_and}
-use Rattle.part.specs.declared.fault.PartFault.{PartFault}
+use Rattle.fault.specs.declared.faults.PartFault.{PartFault}
 use Rattle.book.specs.Views.{pair_of}
 use Rattle.console.specs.Storing.{Stored}
 use Rattle.console.proofs.Calling.{store_stopped, store_gone}

@@ -1,6 +1,6 @@
 use Rattle.std.proofs.Common.{◌≡◌, ℕ, ◌+◌, ◌-◌, List, Ok, Err, Result, sym, ap, ◌∙◌, subst, arith}
 use Rattle.std.proofs.lemmas.Result.{err_from_is_err_and}
-use Rattle.part.specs.declared.fault.PartFault.{PartFault}
+use Rattle.fault.specs.declared.faults.PartFault.{PartFault}
 use Rattle.book.specs.Burning.{Step, Ran, done, pages_copied, book_copied, will_hold}
 use Rattle.book.proofs.Copying.{pages_none, pages_on, book_stops, book_ends}
 use Rattle.book.proofs.books.Books.copy.Goals as goal

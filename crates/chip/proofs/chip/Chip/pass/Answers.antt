@@ -1,5 +1,5 @@
 use Rattle.std.proofs.Common.{◌≡◌, true, leb, sym, ◌∙◌}
-use Rattle.refusal.proofs.Granted.{granted}
+use Rattle.fault.proofs.Granted.{granted}
 use Rattle.chip.specs.Flash.{view}
 use Rattle.chip.specs.Times.{longest, after}
 use Rattle.chip.proofs.Passing.{counted}

@@ -1,6 +1,6 @@
 use Rattle.std.proofs.Common.{ℕ, Some, Ok, Err, sym, refl, ap, ◌∙◌, subst}
 use Rattle.std.proofs.lemmas.Result.{err_from_is_err_and}
-use Rattle.console.specs.declared.fault.ConsoleFault.{ConsoleFault}
+use Rattle.fault.specs.declared.faults.ConsoleFault.{ConsoleFault}
 use Rattle.console.specs.Desks.{desk, between}
 use Rattle.console.specs.Calls.{Opens}
 use Rattle.console.proofs.Calling.{opens_already, opens_done, opens_refused}

@@ -2,7 +2,7 @@ use Rattle.std.proofs.Common.{◌≡◌, ℕ, Err, Option, Result, sym, ap, ◌�
 use Rattle.std.proofs.lemmas.Result.{err_from_is_err_and}
 use Rattle.std.specs.Option.{ok_or}
 use Rattle.book.specs.declared.books.Books.{Books}
-use Rattle.console.specs.declared.fault.ConsoleFault.{ConsoleFault}
+use Rattle.fault.specs.declared.faults.ConsoleFault.{ConsoleFault}
 use Rattle.console.specs.Desks.{desk, between}
 use Rattle.console.specs.Calls.{Waits}
 use Rattle.console.proofs.Calling.{waits_closed, waits_refused, waits_done}

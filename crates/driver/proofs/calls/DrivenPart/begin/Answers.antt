@@ -1,6 +1,6 @@
 use Rattle.std.proofs.Common.{◌≡◌, None, Err, Option, sym, refl, ap, ◌∙◌, subst}
 use Rattle.std.proofs.lemmas.Result.{err_from_is_err_and}
-use Rattle.refusal.specs.declared.Cause.{Cause}
+use Rattle.fault.specs.declared.cause.Cause.{Cause}
 use Rattle.part.specs.Calls.{answer, begin_no, BegunBy}
 use Rattle.part.proofs.Granting.{answer_ok, answer_err}
 use Rattle.driver.specs.Means.{means}

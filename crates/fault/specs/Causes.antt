@@ -1,7 +1,7 @@
 -- Every refusal has a number, and this is the one place that says which.
 use Rattle.std.specs.Prelude.{ℕ}
-use Rattle.refusal.specs.declared.Cause.{Cause}
-use Rattle.refusal.specs.declared.Cause.TheVariants.{AddressOutside, NoSuchBlock, TimeTooLong, UnfitMaking, ErasureInTheWay, Guarded, NeedsErase, Worn, OutOfTurn, UnfitBooks, NoReadableBook, PositionOutside, StopOutside, SpareSpoilt}
+use Rattle.fault.specs.declared.cause.Cause.{Cause}
+use Rattle.fault.specs.declared.cause.Cause.TheVariants.{AddressOutside, NoSuchBlock, TimeTooLong, UnfitMaking, ErasureInTheWay, Guarded, NeedsErase, Worn, OutOfTurn, UnfitBooks, NoReadableBook, PositionOutside, StopOutside, SpareSpoilt}
 
 abbrev pub number_of : Cause → ℕ
 number_of AddressOutside = 1

@@ -1,8 +1,5 @@
-//! Why a call was refused, the same for every layer.
-#![tactic(auto)]
-
 ghost use Rattle.std.specs.Prelude.{◌≡◌};
-ghost use Rattle.refusal.specs.Numbers.{number_of};
+ghost use Rattle.fault.specs.Causes.{number_of};
 
 /// The cause of a refusal. Each layer has a fault type of its own, which holds a cause and where it arose.
 #[derive(Clone, Copy, PartialEq, Eq, Debug)]
