@@ -1,12 +1,12 @@
 -- Where the blocks of a row lie, and which block an address lies in.
-use Rattle.std.proofs.Common.{◌≡◌, ℕ, zero, suc, ◌+◌, ◌-◌, ◌<◌, ◌≤◌, true, false, ◌&&◌, eqb, ltb, leb, List, [], ◌∷◌, length, get_or, sym, refl, ap, ◌∙◌, inl, inr, add-one, arith, lit≤}
+use Rattle.std.proofs.Common.{◌≡◌, ℕ, zero, suc, ◌+◌, ◌-◌, ◌<◌, ◌≤◌, Bool, true, false, ◌&&◌, eqb, ltb, leb, List, [], ◌∷◌, length, get_or, sym, refl, ap, ◌∙◌, inl, inr, add-one, arith}
 use Rattle.std.specs.List.{position_or_len, position}
 use Rattle.std.specs.Option.{unwrap_or}
 use Rattle.std.proofs.lemmas.List.{length-map, get_or-map}
 use Rattle.std.proofs.lemmas.Bool.{lt-ltb, le-ltb, cases_lt, and_parts, eqb-true, false≢true, cond_both, cases_eq, cases_Bool, eq-eqb, ne_eqb, le-leb, leb-true, ltb-true}
 use Rattle.geometry.specs.declared.block.Block.{Block}
 use Rattle.geometry.specs.Blocks.{total, start_of, block_of}
-use Rattle.geometry.specs.Plans.{Plan, top, bottom, bench, dead, plan_of, starts_of, sizes_of, holds, contiguous, Contiguous, LaidOut}
+use Rattle.geometry.specs.Plans.{Plan, Named, dead, chips, plan_among, plan_of, starts_of, sizes_of, holds, contiguous, Contiguous, LaidOut}
 
 -- Block b reaches from its start to its end, and holds no other address.
 pub block_is : (sizes : List ℕ) (k b : ℕ) → b < length sizes → start_of sizes b ≤ k → k < start_of sizes b + get_or sizes b 0
@@ -135,24 +135,37 @@ holder_is p blocks a n t s w e =
       | inr h ↦ rw (le-ltb (position_or_len (holds a) blocks) (length blocks) h) (omega (arith, block_le p.sizes a))
     ]
 
--- What holds of each of the four plans holds of the plan of every number.
-pub every_plan : (P : Plan → Type 0) → P top → P bottom → P bench → P dead → (kind : ℕ) → P (plan_of kind)
-every_plan P t b n d kind =
-    cond_both (eqb kind 0) top _ P (λ _. t)
-    (λ _. cond_both (eqb kind 1) bottom _ P (λ _. b) (λ _. cond_both (eqb kind 2) bench dead P (λ _. n) (λ _. d)))
+-- A test that the plan of each chip passes, and that of no chip.
+abbrev pub each_plan : (Plan → Bool) → List Named → Bool
+each_plan test [] = test dead
+each_plan test (named ∷ rest) = test named.plan && each_plan test rest
+
+-- What each plan passes, the plan of every number passes.
+plan_passes : (test : Plan → Bool) (kind : ℕ) (all : List Named) → each_plan test all ≡ true → test (plan_among kind all) ≡ true
+plan_passes test kind [] t = t
+plan_passes test kind (named ∷ rest) t =
+    let parts = and_parts (test named.plan) (each_plan test rest) t in
+    cond_both (eqb kind named.kind) named.plan (plan_among kind rest) (λ (p : Plan). test p ≡ true)
+    (λ _. parts.0) (λ _. plan_passes test kind rest parts.1)
+
+pub every_plan : (test : Plan → Bool) → each_plan test chips ≡ true → (kind : ℕ) → test (plan_of kind) ≡ true
+every_plan test t kind = plan_passes test kind chips t
+
+pub every_contiguous : (kind : ℕ) → Contiguous (plan_of kind)
+every_contiguous kind = every_plan (λ (p : Plan). contiguous 0 p.starts p.sizes p.size) refl kind
 
 pub every_laid_out : (kind : ℕ) → LaidOut (plan_of kind)
-every_laid_out kind = laid_out (plan_of kind) (every_plan Contiguous refl refl refl refl kind)
+every_laid_out kind = laid_out (plan_of kind) (every_contiguous kind)
 
 pub every_total : (kind : ℕ) → total (plan_of kind).sizes ≡ (plan_of kind).size
-every_total kind = every_plan (λ (p : Plan). total p.sizes ≡ p.size) refl refl refl refl kind
+every_total kind = omega (arith, table_end 0 (plan_of kind).starts (plan_of kind).sizes (plan_of kind).size (every_contiguous kind))
 
--- the block of an address inside the chip is one of 0 to 10
+-- an address inside the chip lies in one of its blocks
 pub every_block : (kind a : ℕ) → a < (plan_of kind).size → block_of (plan_of kind).sizes a < length (plan_of kind).sizes
 every_block kind a h = block_within (plan_of kind).sizes a (omega (arith, every_total kind))
 
-pub every_few : (kind : ℕ) → length (plan_of kind).sizes ≤ 11
-every_few kind = every_plan (λ (p : Plan). length p.sizes ≤ 11) (lit≤ tt) (lit≤ tt) (lit≤ tt) (lit≤ tt) kind
+pub every_few : (kind : ℕ) → length (plan_of kind).sizes ≤ 128
+every_few kind = leb-true _ _ (every_plan (λ (p : Plan). leb (length p.sizes) 128) refl kind)
 
 -- An address lies between a block's start and end just where it lies in the block.
 pub stretch_is : (sizes : List ℕ) (k b : ℕ) → b < length sizes

@@ -1,3 +1,4 @@
 pub mod Blocks
 pub mod Plans
 pub mod Sets
+pub mod Sheets

@@ -1,14 +1,19 @@
-//! The geometries: how large each chip is, and where its blocks lie.
+//! The geometries: how large each chip is, what its data sheet says, and where its blocks lie.
 #![tactic(auto)]
 
 mod block;
+mod datasheet;
 mod kinds;
 mod set;
 mod tables;
 mod walk;
 
 pub use block::Block;
-pub use kinds::{BENCH, BOTTOM, DEAD, TOP, block_at, code, count, fill, nth_block, size, table};
+pub use datasheet::{Choice, Commands, Sheet};
+pub use kinds::{
+    BENCH, BOTTOM, DEAD, TOP, block_at, blocks, code, count, fill, is_chip, nth_block, sheet, size,
+    table,
+};
 pub use set::{BlockSet, LARGEST_SET};
 pub use tables::{Bench, Bottom, Dead, Geometry, Top};
 pub use walk::cell_at;

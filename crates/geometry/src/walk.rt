@@ -1,10 +1,11 @@
-// The chip's work over its blocks, for any geometry. `size`, `code`, `count` and `table` hand on what a geometry brings: a macro that asks
+// The chip's work over its blocks, for any geometry. `size`, `code`, `sheet`, `count` and `table` hand on what a geometry brings: a macro that asks
 // for them by type is refused, as it would have an item in its expansion.
 ghost use Rattle.std.specs.Prelude.{◌≡◌, length, position, slice_index};
 ghost use Rattle.geometry.specs.Blocks.{block_of, filled};
-ghost use Rattle.geometry.specs.Plans.{IsTable, block_at, holds};
+ghost use Rattle.geometry.specs.Plans.{sheet_of, IsTable, block_at, holds};
 
 use crate::block::Block;
+use crate::datasheet::Sheet;
 use crate::set::BlockSet;
 use crate::tables::Geometry;
 
@@ -18,6 +19,12 @@ pub(crate) fn code<G: Geometry>() -> u8
     ensures { result ≡ G.Geometry.plan.code }
 {
     G::CODE
+}
+
+pub(crate) fn sheet<G: Geometry>() -> Sheet
+    ensures { result ≡ sheet_of G.Geometry.plan }
+{
+    G::sheet()
 }
 
 pub(crate) fn count<G: Geometry>() -> usize
