@@ -6,7 +6,8 @@ use Rattle.std.proofs.lemmas.List.{length-map, get_or-map}
 use Rattle.std.proofs.lemmas.Bool.{lt-ltb, le-ltb, cases_lt, and_parts, eqb-true, false≢true, cond_both, cases_eq, cases_Bool, eq-eqb, ne_eqb, le-leb, leb-true, ltb-true}
 use Rattle.geometry.specs.declared.block.Block.{Block}
 use Rattle.geometry.specs.Blocks.{total, start_of, block_of}
-use Rattle.geometry.specs.Plans.{Plan, Named, dead, chips, plan_among, plan_of, starts_of, sizes_of, holds, contiguous, Contiguous, LaidOut}
+use Rattle.geometry.specs.Plans.{Plan, Named, dead, chips, plan_among, plan_of, starts_of, sizes_of, holds, contiguous, Contiguous, IsTable, LaidOut}
+use Rattle.geometry.specs.Rows.{Unbroken}
 
 -- Block b reaches from its start to its end, and holds no other address.
 pub block_is : (sizes : List ℕ) (k b : ℕ) → b < length sizes → start_of sizes b ≤ k → k < start_of sizes b + get_or sizes b 0
@@ -110,29 +111,36 @@ found (b ∷ bs) from end a t h =
           (ap (λ (n : ℕ). 1 + n) (found bs (from + b.size) end a parts.1 (omega arith)))
     ]
 
--- A table has a block for each size of the plan, with its start and its size.
+-- A table has a block for each size of the plan.
 pub table_long : (blocks : List Block) (sizes : List ℕ) → sizes_of blocks ≡ sizes → length blocks ≡ length sizes
 table_long blocks sizes w = sym (length-map blocks (λ (b : Block). b.size)) ∙ ap (λ (xs : List ℕ). length xs) w
 
-pub table_block : (p : Plan) (blocks : List Block) (b : ℕ) (none : Block) → Contiguous p → starts_of blocks ≡ p.starts → sizes_of blocks ≡ p.sizes
-    → b < length p.sizes → ((get_or blocks b none).start ≡ start_of p.sizes b) × ((get_or blocks b none).size ≡ get_or p.sizes b 0)
-table_block p blocks b none t s w l =
-    let h : b < length blocks = omega (arith, table_long blocks p.sizes w) in
-    let at : get_or p.starts b 0 ≡ start_of p.sizes b = omega (arith, table_start 0 p.starts p.sizes p.size t b l) in (
-      sym (get_or-map (λ (x : Block). x.start) blocks b none 0 h) ∙ ap (λ (xs : List ℕ). get_or xs b 0) s ∙ at,
-      sym (get_or-map (λ (x : Block). x.size) blocks b none 0 h) ∙ ap (λ (xs : List ℕ). get_or xs b 0) w,
+-- The table of a plan is a row.
+pub unbroken : (p : Plan) (blocks : List Block) → Contiguous p → IsTable p blocks → Unbroken blocks
+unbroken p blocks t is =
+    rw (is.starts, is.sizes)
+    (ap (contiguous 0 p.starts p.sizes) (omega (arith, table_end 0 p.starts p.sizes p.size t)) ∙ t)
+
+-- Block b of a row begins where the blocks before it end.
+pub row_block : (blocks : List Block) (b : ℕ) (none : Block) → Unbroken blocks → b < length blocks
+    → ((get_or blocks b none).start ≡ start_of (sizes_of blocks) b) × ((get_or blocks b none).size ≡ get_or (sizes_of blocks) b 0)
+row_block blocks b none t h =
+    let l : b < length (sizes_of blocks) = omega (arith, table_long blocks (sizes_of blocks) refl) in
+    let at : get_or (starts_of blocks) b 0 ≡ start_of (sizes_of blocks) b =
+    omega (arith, table_start 0 (starts_of blocks) (sizes_of blocks) (total (sizes_of blocks)) t b l) in (
+      sym (get_or-map (λ (x : Block). x.start) blocks b none 0 h) ∙ at,
+      sym (get_or-map (λ (x : Block). x.size) blocks b none 0 h),
     )
 
-pub holder_is : (p : Plan) (blocks : List Block) (a n : ℕ) → Contiguous p → starts_of blocks ≡ p.starts → sizes_of blocks ≡ p.sizes
-    → n ≡ length p.sizes → unwrap_or (position (holds a) blocks) n ≡ block_of p.sizes a
-holder_is p blocks a n t s w e =
-    let f : position_or_len (holds a) blocks ≡ block_of (sizes_of blocks) (a - 0) = found blocks 0 p.size a (rw (s, w) t) (omega arith) in
+pub holder_is : (blocks : List Block) (a n : ℕ) → Unbroken blocks → n ≡ length blocks
+    → unwrap_or (position (holds a) blocks) n ≡ block_of (sizes_of blocks) a
+holder_is blocks a n t e =
     let z : a - 0 ≡ a = omega arith in
-    let g : position_or_len (holds a) blocks ≡ block_of p.sizes a = rw (w, z) at f in
-    let l : length blocks ≡ length p.sizes = table_long blocks p.sizes w in
+    let g : position_or_len (holds a) blocks ≡ block_of (sizes_of blocks) a = rw z at (found blocks 0 (total (sizes_of blocks)) a t (omega arith)) in
+    let l : length blocks ≡ length (sizes_of blocks) = table_long blocks (sizes_of blocks) refl in
     elim (cases_lt (position_or_len (holds a) blocks) (length blocks)) [
       | inl h ↦ rw (lt-ltb (position_or_len (holds a) blocks) (length blocks) h) g
-      | inr h ↦ rw (le-ltb (position_or_len (holds a) blocks) (length blocks) h) (omega (arith, block_le p.sizes a))
+      | inr h ↦ rw (le-ltb (position_or_len (holds a) blocks) (length blocks) h) (omega (arith, block_le (sizes_of blocks) a))
     ]
 
 -- A test that the plan of each chip passes, and that of no chip.

@@ -1,11 +1,13 @@
 // The geometries by a plain number, which is what a chip keeps: each call goes to the one text that is generic over them.
 // A number and no enum: it is a rule of the project, and every number that a caller can write down has a meaning here.
 ghost use Rattle.std.specs.Prelude.{◌≡◌, ℕ, ◌≤◌, length};
-ghost use Rattle.geometry.specs.Blocks.{block_of, filled};
+ghost use Rattle.geometry.specs.Blocks.{block_of};
 ghost use Rattle.geometry.specs.Plans.{plan_of, sheet_of, is_chip, blocks_of, IsTable, block_at, LaidOut};
+ghost use Rattle.geometry.specs.RowSizes.{sizes};
 
 use crate::block::Block;
 use crate::datasheet::Sheet;
+use crate::rows::Row;
 use crate::set::BlockSet;
 use crate::tables::{Bench, Bottom, Dead, Top};
 use crate::walk;
@@ -98,9 +100,9 @@ pub fn block_at(kind: u8, address: u32) -> usize
     by_kind!(kind, block_at(address))
 }
 
-/// Fills each block of the set with `byte`, as far as there are cells.
-pub fn fill(kind: u8, cells: &mut [u8], blocks: BlockSet, byte: u8)
-    ensures { cells.new ≡ filled (plan_of kind).sizes blocks byte cells.old }
+/// The blocks as a row.
+pub fn row(kind: u8) -> Row
+    ensures { sizes result ≡ (plan_of kind).sizes }
 {
-    by_kind!(kind, fill(cells, blocks, byte))
+    by_kind!(kind, row())
 }

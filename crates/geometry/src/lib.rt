@@ -4,6 +4,7 @@
 mod block;
 mod datasheet;
 mod kinds;
+mod rows;
 mod set;
 mod tables;
 mod walk;
@@ -11,9 +12,10 @@ mod walk;
 pub use block::Block;
 pub use datasheet::{Choice, Commands, Sheet};
 pub use kinds::{
-    BENCH, BOTTOM, DEAD, TOP, block_at, blocks, code, count, fill, is_chip, nth_block, sheet, size,
+    BENCH, BOTTOM, DEAD, TOP, block_at, blocks, code, count, is_chip, nth_block, row, sheet, size,
     table,
 };
+pub use rows::Row;
 pub use set::{BlockSet, LARGEST_SET};
 pub use tables::{Bench, Bottom, Dead, Geometry, Top};
 pub use walk::cell_at;
