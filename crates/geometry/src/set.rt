@@ -1,5 +1,5 @@
 // Sets of blocks, which every chip, command and law speaks of.
-ghost use Rattle.std.specs.Prelude.{◌≡◌};
+ghost use Rattle.std.specs.Prelude.{◌≡◌, ◌≤◌, count_ones};
 ghost use Rattle.geometry.specs.Sets.{bit, has, none, only, first, count_of, union, without, meets, is_within};
 
 /// How many blocks a set can hold: blocks 0 to 127.
@@ -16,6 +16,14 @@ fn is_set(mask: u128, place: usize) -> bool
     ensures { result ≡ bit mask place }
 {
     place < LARGEST_SET && mask >> place & 1 == 1
+}
+
+// How many bits of a mask are 1.
+fn ones(mask: u128) -> u32
+    ensures value { result ≡ count_ones mask }
+    ensures bound { result ≤ 128 }
+{
+    mask.count_ones()
 }
 
 impl BlockSet {
@@ -57,9 +65,10 @@ impl BlockSet {
 
     /// How many blocks the set has.
     pub fn count(self) -> u32
-        ensures { result ≡ count_of self }
+        ensures value { result ≡ count_of self }
+        ensures bound { result ≤ 128 }
     {
-        self.mask.count_ones()
+        ones(self.mask)
     }
 
     /// The blocks of either set.
