@@ -2,18 +2,19 @@
 use Rattle.std.proofs.Common.{◌≡◌, ℕ, ◌-◌, ◌%◌, Bool, true, false, cond, ◌&&◌, eqb, sym, refl, ap, ◌∙◌, subst, inl, inr}
 use lib.Bits.{bit_or}
 use Rattle.std.proofs.lemmas.Bool.{ne_eqb, eqb-true, and_parts, cases_Bool}
-use Rattle.chip.specs.declared.state.Mode.{Mode}
-use Rattle.chip.specs.declared.state.Mode.TheVariants.{Read}
-use Rattle.chip.specs.declared.state.Place.{Place}
-use Rattle.chip.specs.declared.state.Place.TheVariants.{Start, Second, Command, Data, EraseStart, EraseSecond, EraseBlock}
-use Rattle.chip.specs.declared.state.Decision.TheVariants.{Enter, GiveUp}
+use Rattle.flash.specs.declared.sequence.Mode.{Mode}
+use Rattle.flash.specs.declared.sequence.Mode.TheVariants.{Read}
+use Rattle.flash.specs.declared.sequence.Place.{Place}
+use Rattle.flash.specs.declared.sequence.Place.TheVariants.{Start, Second, Command, Data, EraseStart, EraseSecond, EraseBlock}
+use Rattle.flash.specs.declared.sequence.Decision.TheVariants.{Enter, GiveUp}
 use Rattle.chip.specs.declared.state.Phase.{Phase}
 use Rattle.chip.specs.declared.state.Phase.TheVariants.{Window, Erasing as Begun}
 use Rattle.chip.specs.declared.state.Erase.{Erase}
 use Rattle.chip.specs.declared.state.State.{State}
 use Rattle.chip.specs.declared.state.State.TheVariants.{Ready, Erasing, Failed}
-use Rattle.chip.specs.Commands.{decided}
-use Rattle.chip.specs.Flash.{Flash, with_state, inside}
+use Rattle.flash.specs.Sequences.{decided}
+use Rattle.chip.specs.Flash.{Flash, inside}
+use Rattle.chip.proofs.Updates.{with_state}
 use Rattle.chip.specs.Writes.{read_mode, block_mask, obeyed, interrupted, heeded, written}
 use Rattle.chip.specs.Reads.{flipped, seen}
 use Rattle.chip.specs.Times.{steps, passed, erase_time, with_clock}

@@ -21,9 +21,9 @@ erase_time g each selected =
     else count_of (erasable g selected) * (if spoils g selected then longest_erase else each)
 
 -- the cells after an erase: the blocks are FFh throughout; no cell has changed where the erase fails
-abbrev pub erased : Ground → BlockSet → List ℕ → List ℕ
-erased g selected cells = if spoils g selected then cells else filled g.sizes (erasable g selected) 0xFF cells
+abbrev pub after_erase : Ground → BlockSet → List ℕ → List ℕ
+after_erase g selected cells = if spoils g selected then cells else filled g.sizes (erasable g selected) 0xFF cells
 
 -- the cells after a reset that breaks an erasing off: the blocks that are neither protected nor worn are 00h throughout
-abbrev pub half_erased : Ground → BlockSet → List ℕ → List ℕ
-half_erased g selected cells = filled g.sizes (without (erasable g selected) g.worn) 0x00 cells
+abbrev pub after_broken_erase : Ground → BlockSet → List ℕ → List ℕ
+after_broken_erase g selected cells = filled g.sizes (without (erasable g selected) g.worn) 0x00 cells

@@ -19,5 +19,5 @@ abbrev pub program_fails : Ground → List ℕ → ℕ → ℕ → Bool
 program_fails g cells a byte = not (is_protected g a) && (is_worn g a || needs_erase (slice_index cells a) byte)
 
 -- The cells after a program, also one that failed or that a reset broke off: in a block that is neither protected nor worn the cell is cell AND byte.
-abbrev pub programmed : Ground → List ℕ → ℕ → ℕ → List ℕ
-programmed g cells a byte = if is_protected g a || is_worn g a then cells else burnt cells a byte
+abbrev pub after_program : Ground → List ℕ → ℕ → ℕ → List ℕ
+after_program g cells a byte = if is_protected g a || is_worn g a then cells else burnt cells a byte

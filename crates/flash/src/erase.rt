@@ -2,7 +2,7 @@
 ghost use Rattle.std.specs.Prelude.{◌≡◌, min};
 ghost use Rattle.flash.specs.Limits.{longest_erase};
 ghost use Rattle.flash.specs.Grounds.{ground};
-ghost use Rattle.flash.specs.Erases.{erasable, spoils, erase_time, erased, half_erased};
+ghost use Rattle.flash.specs.Erases.{erasable, spoils, erase_time, after_erase, after_broken_erase};
 
 use crate::ground::Ground;
 use crate::limits::{LONGEST_ERASE, PROTECTED_ERASE};
@@ -42,7 +42,7 @@ impl Ground {
 
     /// Does to the cells what an erase has done at its end.
     pub fn erase(&self, cells: &mut [u8], selected: BlockSet)
-        ensures { cells.new ≡ erased (ground self.now) selected cells.old }
+        ensures { cells.new ≡ after_erase (ground self.now) selected cells.old }
     {
         if !self.spoils(selected) {
             self.row.fill(cells, self.erasable(selected), 0xFF);
@@ -51,7 +51,7 @@ impl Ground {
 
     /// Does to the cells what a reset does that breaks an erasing off.
     pub fn break_erase(&self, cells: &mut [u8], selected: BlockSet)
-        ensures { cells.new ≡ half_erased (ground self.now) selected cells.old }
+        ensures { cells.new ≡ after_broken_erase (ground self.now) selected cells.old }
     {
         let sound = self.erasable(selected).without(self.worn);
         self.row.fill(cells, sound, 0x00);

@@ -14,5 +14,5 @@ pub use limits::{
     LONGEST_ERASE, LONGEST_PROGRAM, LONGEST_SUSPENSION, PROTECTED_ERASE, PROTECTED_PROGRAM, WINDOW,
     erase_fits, program_fits, suspend_fits,
 };
-pub use reads::{Question, identity, status};
+pub use reads::{Question, SUSPENDED_STATUS, identity, status};
 pub use sequence::{Decision, Mode, Place};

@@ -1,7 +1,7 @@
 // Programming a byte.
 ghost use Rattle.std.specs.Prelude.{◌≡◌};
 ghost use Rattle.flash.specs.Grounds.{ground};
-ghost use Rattle.flash.specs.Programs.{burnt, program_time, program_fails, programmed};
+ghost use Rattle.flash.specs.Programs.{burnt, program_time, program_fails, after_program};
 
 use crate::ground::Ground;
 use crate::limits::{LONGEST_PROGRAM, PROTECTED_PROGRAM};
@@ -42,7 +42,7 @@ impl Ground {
 
     /// Does to the cells what the program of a byte does, at its end and where a reset breaks it off.
     pub fn program(&self, cells: &mut [u8], address: u32, byte: u8)
-        ensures { cells.new ≡ programmed (ground self.now) cells.old address byte }
+        ensures { cells.new ≡ after_program (ground self.now) cells.old address byte }
     {
         if !self.is_protected(address) && !self.is_worn(address) {
             burn(cells, address, byte);

@@ -8,6 +8,9 @@ ghost use Rattle.flash.specs.Statuses.{status};
 use crate::ground::Ground;
 use geometry::{Choice, Sheet};
 
+/// What a suspended chip answers in a selected block.
+pub const SUSPENDED_STATUS: u8 = 0x80;
+
 /// What a read in ID mode asks for.
 #[derive(Clone, Copy, Debug, PartialEq, Eq)]
 pub enum Question {
