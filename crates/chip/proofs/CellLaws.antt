@@ -1,5 +1,5 @@
 -- The laws on cells: protected and worn blocks keep theirs, and only an erase brings a 1 back.
-use Rattle.std.proofs.Common.{◌≡◌, ℕ, zero, suc, Bool, true, false, cond, ◌||◌, leb, length, get_or, Some, None, Option, sym, refl, ap, ◌∙◌, subst, arith}
+use Rattle.std.proofs.Common.{◌≡◌, ℕ, zero, suc, true, false, ◌||◌, leb, length, get_or, Some, None, Option, sym, refl, ap, ◌∙◌, subst, arith}
 use Rattle.std.proofs.lemmas.Bool.{cond_both, both_ways}
 use Rattle.geometry.specs.Sets.{bit}
 use Rattle.flash.specs.Programs.{program_fails}
@@ -10,7 +10,7 @@ use Rattle.chip.specs.declared.state.Program.{Program}
 use Rattle.chip.specs.declared.state.Erase.{Erase}
 use Rattle.chip.specs.declared.state.State.{State}
 use Rattle.chip.specs.declared.state.State.TheVariants.{Ready, Programming, Erasing, Suspending, Suspended, Failed}
-use Rattle.chip.specs.Flash.{Flash, ground_of, inside, cell, protected, worn}
+use Rattle.chip.specs.Flash.{Flash, ground_of, cell, protected, worn}
 use Rattle.chip.specs.Times.{programmed, erased, ended, due, lowered, step_by, tick, passed}
 use Rattle.chip.specs.Resets.{broken_erase, broken, after_reset}
 use Rattle.chip.specs.Laws.{Sound, KeepsBlocks, OnlyClears, in_erase}
