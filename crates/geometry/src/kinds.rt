@@ -5,6 +5,7 @@ ghost use Rattle.geometry.specs.Blocks.{block_of, filled};
 ghost use Rattle.geometry.specs.Plans.{plan_of, IsTable, block_at, LaidOut};
 
 use crate::block::Block;
+use crate::set::BlockSet;
 use crate::tables::{Bench, Bottom, Dead, Top};
 use crate::walk;
 
@@ -75,9 +76,9 @@ pub fn block_at(kind: u8, address: u32) -> usize
     by_kind!(kind, block_at(address))
 }
 
-/// Sets each block of the mask to `byte` throughout, as far as there are cells.
-pub fn fill(kind: u8, cells: &mut [u8], mask: u32, byte: u8)
-    ensures { cells.new ≡ filled (plan_of kind).sizes mask byte cells.old }
+/// Fills each block of the set with `byte`, as far as there are cells.
+pub fn fill(kind: u8, cells: &mut [u8], blocks: BlockSet, byte: u8)
+    ensures { cells.new ≡ filled (plan_of kind).sizes blocks byte cells.old }
 {
-    by_kind!(kind, fill(cells, mask, byte))
+    by_kind!(kind, fill(cells, blocks, byte))
 }

@@ -4,7 +4,8 @@ ghost use Rattle.std.specs.Prelude.{◌≡◌, length, position, slice_index};
 ghost use Rattle.geometry.specs.Blocks.{block_of, filled};
 ghost use Rattle.geometry.specs.Plans.{IsTable, block_at, holds};
 
-use crate::block::{Block, is_marked};
+use crate::block::Block;
+use crate::set::BlockSet;
 use crate::tables::Geometry;
 
 pub(crate) fn size<G: Geometry>() -> u32
@@ -54,12 +55,12 @@ pub(crate) fn block_at<G: Geometry>(address: u32) -> usize
     holder(G::table(), address).unwrap_or(G::BLOCKS)
 }
 
-// Sets each block of the mask to `byte` throughout, as far as there are cells.
-pub(crate) fn fill<G: Geometry>(cells: &mut [u8], mask: u32, byte: u8)
-    ensures { cells.new ≡ filled G.Geometry.plan.sizes mask byte cells.old }
+// Fills each block of the set with `byte`, as far as there are cells.
+pub(crate) fn fill<G: Geometry>(cells: &mut [u8], blocks: BlockSet, byte: u8)
+    ensures { cells.new ≡ filled G.Geometry.plan.sizes blocks byte cells.old }
 {
     for (number, block) in G::table().iter().enumerate() {
-        if is_marked(mask, number) {
+        if blocks.contains(number) {
             block.fill(cells, byte);
         }
     }

@@ -1,10 +1,11 @@
 use Rattle.std.proofs.Common.{◌≡◌, ℕ, ◌<◌, cond, ◌&&◌, ltb, length, get_or}
-use Rattle.geometry.specs.Blocks.{block_of, bit}
+use Rattle.geometry.specs.Blocks.{block_of}
+use Rattle.geometry.specs.Sets.{has}
 use Rattle.geometry.proofs.walk.fill.Given as goal
 
 abbrev pub invariant-loop-number : goal.invariant-loop-number
 invariant-loop-number g l =
     (k : ℕ) → k < length l.initial.cells
     → get_or l.cells k 0
-    ≡ cond (ltb (block_of g.G.Geometry.plan.sizes k) l.number && bit l.mask (block_of g.G.Geometry.plan.sizes k))
+    ≡ cond (ltb (block_of g.G.Geometry.plan.sizes k) l.number && has l.blocks (block_of g.G.Geometry.plan.sizes k))
     l.byte (get_or l.initial.cells k 0)
