@@ -1,3 +1,4 @@
 pub mod Limits
 pub mod Means
-pub mod Facts
+pub mod Making
+pub mod LawfulProof

@@ -1,11 +1,11 @@
 -- What an array means as a part: equal blocks, none guarded or worn; an erasure always has 1 microsecond left.
-use Rattle.std.specs.Prelude.{ℕ, true, false, cond, List, [], length, replicate, Some, None, vec_items, Option}
+use Rattle.std.specs.Prelude.{ℕ, true, false, if◌then◌else◌, List, [], length, replicate, Some, None, vec_items, Option}
 use Rattle.part.specs.declared.answers.Standing.{Standing}
 use Rattle.part.specs.declared.answers.Standing.TheVariants.{Idle, Running, Suspended}
 use Rattle.part.specs.Meaning.{Erasure, Meaning}
 use Rattle.array.specs.declared.array.Array.{Array}
 use Rattle.array.specs.declared.array.Layout.{Layout}
-use Rattle.array.specs.Limits.{fit}
+use Rattle.array.specs.Limits.{bytes, fit}
 
 abbrev pub erasure_of : Standing → Option Erasure
 erasure_of Idle = None
@@ -30,6 +30,14 @@ means s = equal_blocks s.layout (vec_items s.cells) s.standing s.clock
 abbrev pub no_blocks : Layout
 no_blocks = record { count = 0; width = 64 }
 
--- a new array: no erasure, and no time has passed; one made of what does not fit is dead
+-- a new array: no erasure, and no time has passed
+abbrev pub new_array : Layout → List ℕ → Meaning
+new_array l cells = equal_blocks l cells Idle 0
+
+-- one made of what does not fit is dead
 abbrev pub made : Layout → List ℕ → Meaning
-made l cells = cond (fit l (length cells)) (equal_blocks l cells Idle 0) (equal_blocks no_blocks [] Idle 0)
+made l cells = if fit l (length cells) then new_array l cells else new_array no_blocks []
+
+-- a new array with FFh throughout
+abbrev pub blank : Layout → Meaning
+blank l = new_array l (replicate (bytes l) 0xFF)

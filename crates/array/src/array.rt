@@ -1,5 +1,5 @@
 ghost use Rattle.std.specs.Prelude.{◌≡◌, ◌*◌, ◌<◌, ◌≤◌, true, vec_len};
-ghost use Rattle.array.specs.Limits.{in_blocks};
+ghost use Rattle.array.specs.Limits.{most_blocks, least_width, most_width, in_blocks};
 
 use geometry::Block;
 use part::Standing;
@@ -36,9 +36,9 @@ pub struct Array {
     pub(crate) standing: Standing,
     pub(crate) clock: u32,
     ghost whole: { vec_len cells ≡ layout.count * layout.width },
-    ghost few: { layout.count ≤ 256 },
-    ghost least: { 64 ≤ layout.width },
-    ghost most: { layout.width ≤ 65536 },
+    ghost few: { layout.count ≤ most_blocks },
+    ghost least: { least_width ≤ layout.width },
+    ghost most: { layout.width ≤ most_width },
     ghost within: { in_blocks standing layout.count ≡ true },
     ghost counted: { clock < 4294967296 },
 }

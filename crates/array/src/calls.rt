@@ -2,19 +2,18 @@
 ghost use Rattle.std.specs.Prelude.{◌≡◌, ◌+◌, ◌%◌, OnOk};
 ghost use Rattle.array.specs.Means.{means as meaning};
 ghost use Rattle.part.specs.Calls.{answer, burn_no, Burnt, can_hold, can_go, Held};
-ghost use Rattle.array.specs.Facts;
+ghost use Rattle.array.specs.LawfulProof;
 
 use crate::array::Array;
-use chip::short_enough;
+use fault::{PartFault, time_no};
 use geometry::Block;
-use fault::PartFault;
 use part::{Part, Progress, Shape, Standing, Turn, granted};
 
 // hold and go_on mirror one another, here and in the driver; one function for both would take what to do as a closure, and be no plainer.
 impl Part for Array {
     ghost means = { meaning };
 
-    ghost lawful = { λ s. Facts.lawful s };
+    ghost lawful = { λ s. LawfulProof.lawful s };
 
     #[tactic(auto, using(crate::proofs::Rules::array_rules))]
     fn shape(&self) -> Shape {
@@ -63,7 +62,7 @@ impl Part for Array {
         Ok(())
     }
 
-    #[tactic(auto, using(crate::specs::Facts::held_running))]
+    #[tactic(auto, using(crate::proofs::Facts::held_running))]
     // An array is held in no time.
     fn hold(&mut self) -> Turn
         ensures answer { result ≡ can_hold (meaning self.old).erasure }
@@ -90,7 +89,7 @@ impl Part for Array {
     }
 
     fn pass(&mut self, n: u32) -> Result<Progress, PartFault> {
-        short_enough(n)?;
+        granted(time_no(n), n)?;
         let progress = self.run(n);
         self.count_time(n);
         Ok(progress)

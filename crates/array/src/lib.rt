@@ -5,6 +5,9 @@ mod array;
 mod calls;
 mod making;
 mod refusals;
+mod unmade;
 mod work;
 
 pub use array::{Array, Layout};
+pub use making::{LEAST_WIDTH, MOST_BLOCKS, MOST_WIDTH};
+pub use unmade::Unmade;

@@ -6,6 +6,7 @@ ghost use Rattle.array.specs.Means.{means};
 
 use crate::array::Array;
 use fault::Cause;
+use part::burn_why;
 
 impl Array {
     pub(crate) fn size(&self) -> u32
@@ -40,7 +41,8 @@ impl Array {
         if address >= self.size() {
             Some(Cause::AddressOutside)
         } else {
-            self.standing.burn_no(false, self.cell(address), byte)
+            let barred = self.standing.bars(address / self.layout.width);
+            burn_why(barred, false, self.cell(address), byte)
         }
     }
 }

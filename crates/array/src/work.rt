@@ -44,7 +44,7 @@ impl Array {
     }
 
     // Lets n microseconds pass on a running erasure, the clock aside.
-    #[tactic(auto, using(crate::specs::Facts::ended))]
+    #[tactic(auto, using(crate::proofs::Facts::ended))]
     pub(crate) fn run(&mut self, n: u32) -> Progress
         ensures answer { result ≡ progress (means self.old) n (means self.old).erasure }
         ensures ran { means self.new ≡ run_on (means self.old) n (means self.old).erasure }

@@ -6,7 +6,7 @@ use Rattle.geometry.proofs.Wiping.{length_wiped, wiped_left, wiped_right}
 use Rattle.part.specs.Meaning.{Erasure, Meaning, Lawful, ErasureLawful, size, count, worn, with_cells, with_erasure, ticked}
 use Rattle.part.specs.Calls.{stands, erased, longest, run_on, passed, progress, after_pass}
 use Rattle.joined.specs.Pile.{raised, either, pile}
-use Rattle.joined.specs.Refusing.{One, worn_left, worn_right}
+use Rattle.joined.proofs.Refusing.{One, worn_left, worn_right}
 use Rattle.joined.proofs.Living.{run_idle, no_erasure}
 
 -- An erasure that goes on or ends changes neither the size nor the blocks.
@@ -38,11 +38,24 @@ count_run m k (Some e) = by e.running (ltb k e.left)
     by true false = refl
     by false s = refl
 
+-- Nor does it move the clock, which time does by itself.
+pub run_clock : (m : Meaning) (k : ℕ) (e : Option Erasure) → (run_on m k e).clock ≡ m.clock
+run_clock m k None = refl
+run_clock m k (Some e) = by e.running (ltb k e.left)
+  where
+    by : (r s : Bool) → (cond r
+        (cond s (with_erasure m (Some (record { block = e.block; left = e.left - k; running = true })))
+        (with_erasure (with_cells m (erased m e.block)) None))
+        m).clock ≡ m.clock
+    by true true = refl
+    by true false = refl
+    by false s = refl
+
 either_none : (k : ℕ) (d e : Option Erasure) → e ≡ None → either d (raised k e) ≡ d
 either_none k None e q = ap (raised k) q
 either_none k (Some d) e q = refl
 
-module _ (m n : Meaning) (lm : Lawful m) (o : One m.erasure n.erasure) (k : ℕ) where
+module _ (m n : Meaning) (lm : Lawful m) (o : One m n) (k : ℕ) where
   -- The first side's erasure, when the second has none.
   ended_left : (b : ℕ) → b < count m → n.erasure ≡ None
       → pile (with_erasure (with_cells m (erased m b)) None) n ≡ with_erasure (with_cells (pile m n) (erased (pile m n) b)) None
@@ -100,8 +113,8 @@ module _ (m n : Meaning) (lm : Lawful m) (o : One m.erasure n.erasure) (k : ℕ)
   progress_right (Some x) = rw (worn_right m n lm o x.block)
 
 -- Time that passes on both sides passes on the whole.
-module _ (m n : Meaning) (lm : Lawful m) (o : One m.erasure n.erasure) (k : ℕ) where
-  run_first : stands n.erasure ≡ false → pile (passed m k) (passed n k) ≡ passed (pile m n) k
+module _ (m n : Meaning) (lm : Lawful m) (o : One m n) (k : ℕ) where
+  run_first : stands n ≡ false → pile (passed m k) (passed n k) ≡ passed (pile m n) k
   run_first i =
       let q : n.erasure ≡ None = no_erasure n.erasure i in
       ap (λ (y : Meaning). pile (passed m k) (ticked y k)) (run_idle n k n.erasure i)
@@ -109,7 +122,7 @@ module _ (m n : Meaning) (lm : Lawful m) (o : One m.erasure n.erasure) (k : ℕ)
       (run_left m n lm o k m.erasure lm.erasure q
       ∙ ap (run_on (pile m n) k) (sym (either_none (count m) m.erasure n.erasure q)))
 
-  run_second : stands m.erasure ≡ false → pile (passed m k) (passed n k) ≡ passed (pile m n) k
+  run_second : stands m ≡ false → pile (passed m k) (passed n k) ≡ passed (pile m n) k
   run_second i =
       let q : m.erasure ≡ None = no_erasure m.erasure i in
       ap (λ (x : Meaning). pile (ticked x k) (passed n k)) (run_idle m k m.erasure i)
@@ -118,13 +131,13 @@ module _ (m n : Meaning) (lm : Lawful m) (o : One m.erasure n.erasure) (k : ℕ)
       ∙ ap (λ (d : Option Erasure). run_on (pile m n) k (either d (raised (count m) n.erasure))) (sym q))
 
   run_both : pile (passed m k) (passed n k) ≡ passed (pile m n) k
-  run_both = elim (and_cases (stands m.erasure) (stands n.erasure) o) [ inl i ↦ run_second i | inr i ↦ run_first i ]
+  run_both = elim (and_cases (stands m) (stands n) o) [ inl i ↦ run_second i | inr i ↦ run_first i ]
 
   pub pass_both : pile (after_pass m k) (after_pass n k) ≡ after_pass (pile m n) k
   pass_both = elim (cases_Bool (leb k longest)) [ inl h ↦ rw h run_both | inr h ↦ rw h ]
 
   -- The second side says what became of the erasure, where the first has none.
-  pub progress_second : stands m.erasure ≡ false → progress (pile m n) k (pile m n).erasure ≡ progress n k n.erasure
+  pub progress_second : stands m ≡ false → progress (pile m n) k (pile m n).erasure ≡ progress n k n.erasure
   progress_second i =
       ap (λ (d : Option Erasure). progress (pile m n) k (either d (raised (count m) n.erasure))) (no_erasure m.erasure i)
       ∙ progress_right m n lm o k n.erasure

@@ -1,270 +1,351 @@
--- The calls of a joined part that is not dead, by the calls of its sides.
-use Rattle.std.proofs.Common.{◌≡◌, ℕ, ◌+◌, ◌-◌, ◌<◌, ◌≤◌, Bool, true, false, not, ◌&&◌, leb, Some, None, Option, Result, sym, refl, ap, ◌∙◌, subst, inl, inr, arith}
-use Rattle.std.proofs.lemmas.Bool.{cond-true, cond-false, and_parts, and_left, and_right, and_from, cases_lt, le-leb}
+-- What a call did to the two sides of a joined part is what it did to the whole.
+use Rattle.std.proofs.Common.{◌≡◌, ℕ, ◌+◌, ◌-◌, ◌%◌, ◌<◌, ◌≤◌, Bool, true, false, cond, not, ◌&&◌, ltb, leb, Some, None, Option, sym, refl, ap, ◌∙◌, subst, inl, inr, arith}
+use Rattle.std.proofs.lemmas.Bool.{cond-true, cond-false, cond_both, lt-ltb, ltb-true, ltb-false, le-leb, cases_lt, true≢false}
+use Rattle.std.proofs.lemmas.Bool.Decides.{nat_tests}
 use Rattle.fault.specs.declared.cause.Cause.{Cause}
-use Rattle.fault.specs.declared.cause.Cause.TheVariants.{AddressOutside, NoSuchBlock}
+use Rattle.fault.specs.declared.cause.Cause.TheVariants.{AddressOutside, NoSuchBlock, ErasureInTheWay}
 use Rattle.geometry.specs.declared.block.Block.{Block}
-use Rattle.fault.specs.declared.faults.PartFault.{PartFault}
-use Rattle.part.specs.declared.answers.Progress.{Progress}
 use Rattle.part.specs.declared.answers.Shape.{Shape}
 use Rattle.part.specs.Meaning.{Meaning, Lawful, size, count, cell, shape_of}
-use Rattle.part.specs.Calls.{answer, stands, runs, peek_no, burn_no, begin_no, time_no, BurntBy, Burnt, BegunBy, Begun, progress, after_pass, block_at}
 use Rattle.part.specs.Standings.{stood, ran}
 use Rattle.part.proofs.Standings.{stood_is, ran_is}
-use Rattle.joined.specs.Pile.{pile, fits, Asked, joined, elapsed, later, LaterRoom, placed}
-use Rattle.joined.specs.Refusing.{One, cell_left, cell_right, peek_left, peek_right, burn_left, burn_right, begin_left, begin_right}
-use Rattle.joined.specs.Asking.{block_right, later_room}
-use Rattle.joined.proofs.Living.{same_second, burnt_first, burnt_second, begun_first, begun_second}
-use Rattle.joined.proofs.Running.{pass_both, progress_second}
-use Rattle.joined.proofs.Fitting.{one, fits_passed, fits_burnt_first, fits_burnt_second, fits_begun_first, fits_begun_second}
+use Rattle.part.specs.Calls.{answer, stands, runs, block_at, peek_no, burn_no, begin_no, BurntBy, Burnt, BegunBy, Begun, Held, gone_on, longest, run_on, passed, after_pass}
+use Rattle.part.specs.Laws.{Call, look, burn, begin, hold, go_on, pass, Made}
+use Rattle.part.specs.Neighbours.{elapsed}
+use Rattle.joined.specs.declared.aim.Aim.{Aim}
+use Rattle.joined.specs.declared.aim.Aim.TheVariants.{First, Second}
+use Rattle.joined.specs.Pile.{pile, no_part, fits, joined, later, LaterRoom, placed}
+use Rattle.joined.specs.Sides.{Sides, whole_of, Way, neither, to_first, to_second, hides_beside, bars_beside, aimed, peek_aim, burn_aim, begin_aim, sent, turn_way, way, Went, Called}
+use Rattle.joined.proofs.Asking.{block_right, later_room}
+use Rattle.joined.proofs.Refusing.{One, cell_left, cell_right, peek_left, peek_right, burn_left, burn_right, begin_left, begin_right}
+use Rattle.joined.proofs.Living.{none_passed, no_time, unbarred_still, same_second, burnt_first, burnt_second, begun_clock, begun_first, begun_second, held_first, held_second, gone_first, gone_second}
+use Rattle.joined.proofs.Running.{run_clock, pass_both}
+use Rattle.joined.proofs.Fitting.{one, fits_same, fits_passed, fits_burnt_first, fits_burnt_second, fits_begun_first, fits_begun_second, fits_held_first, fits_held_second, fits_gone_first, fits_gone_second}
 
--- What a call knows once it has asked: the joined part is not dead, and s and t are the shapes of its sides.
-pub record Seen (l : Bool) (m n : Meaning) (s t : Shape) : Type 0 where
-  pub first_lawful : Lawful m
-  pub second_lawful : Lawful n
-  pub live : l ≡ true
-  pub fit : fits m n ≡ true
-  pub first : s ≡ shape_of m
-  pub second : t ≡ shape_of n
+-- Why a call at a place is refused, by where it goes: as that side refuses it, or since the other side's erasure is in the way.
+abbrev pub By : ℕ → ℕ → ℕ → Bool → Bool → Option Cause → Option Cause → (ℕ → Option Cause) → Option Aim → Type 0
+By place ends behind by_first by_second why first second None = why ≡ Some ErasureInTheWay
+By place ends behind by_first by_second why first second (Some First) = (place < ends) × (by_second ≡ false) × (why ≡ first)
+By place ends behind by_first by_second why first second (Some (Second inner)) =
+    (place ≡ ends + inner) × (inner < behind → by_first ≡ false) × (why ≡ second inner)
 
-pub seen : (l : Bool) (m n : Meaning) (s t : Shape) → Lawful m → Lawful n → Asked l m n (Some (s, t)) → Seen l m n s t
-seen l m n s t lm ln a =
-    let p = and_parts l (fits m n) a.0 in
-    record { first_lawful = lm; second_lawful = ln; live = p.0; fit = p.1; first = a.1; second = a.2 }
+module _ (place ends behind : ℕ) (by_first by_second : Bool) (why first : Option Cause) (second : ℕ → Option Cause) where
+  past : ltb (place - ends) behind ≡ not (leb behind (place - ends))
+  past = grind (arith, nat_tests)
 
--- A joined part whose sides fit together is the two end to end.
-on : (l : Bool) (m n : Meaning) → l ≡ true → fits m n ≡ true → joined l m n ≡ pile m n
-on l m n t f = cond-true (l && fits m n) _ _ (and_from l (fits m n) t f)
+  pub by_aim : (place < ends → why ≡ cond by_second (Some ErasureInTheWay) first)
+      → (ends ≤ place → why ≡ cond (not (leb behind (place - ends)) && by_first) (Some ErasureInTheWay) (second (place - ends)))
+      → By place ends behind by_first by_second why first second (aimed place ends behind by_first by_second)
+  by_aim f s =
+      cond_both (ltb place ends) (cond by_second None (Some First)) (cond (ltb (place - ends) behind && by_first) None (Some (Second (place - ends))))
+      (By place ends behind by_first by_second why first second)
+      (λ t.
+      let l : place < ends = ltb-true place ends t in
+      cond_both by_second None (Some First) (By place ends behind by_first by_second why first second)
+      (λ u. f l ∙ cond-true by_second _ _ u)
+      (λ u. (l, u, f l ∙ cond-false by_second _ _ u)))
+      (λ t.
+      let l : ends ≤ place = ltb-false place ends t in
+      cond_both (ltb (place - ends) behind && by_first) None (Some (Second (place - ends))) (By place ends behind by_first by_second why first second)
+      (λ u. s l ∙ cond-true _ _ _ (ap (λ (x : Bool). x && by_first) (sym past) ∙ u))
+      (λ u. (
+        omega arith,
+        λ k. clear k u,
+        s l ∙ cond-false _ _ _ (ap (λ (x : Bool). x && by_first) (sym past) ∙ u),
+      )))
+    where
+      clear : place - ends < behind → (ltb (place - ends) behind && by_first) ≡ false → by_first ≡ false
+      clear k u = ap (λ (x : Bool). x && by_first) (sym (lt-ltb (place - ends) behind k)) ∙ u
 
-placed_answer : {X : Type 0} (why : Option Cause) (inner place : ℕ) (x : X) → placed (answer why inner x) place ≡ answer why place x
-placed_answer None inner place x = refl
-placed_answer (Some cause) inner place x = refl
+module _ (m n : Meaning) (lm : Lawful m) (ln : Lawful n) (f : fits m n ≡ true) where
+  lone : One m n
+  lone = one m n f
 
--- An erasure of the first side is in the way of what lies in the second, and of nothing past its end.
-clear : (i k j : ℕ) (x : Bool) → j ≡ i → (i < k → x ≡ false) → (not (leb k j) && x) ≡ false
-clear i k j x e f =
-    elim (cases_lt i k) [
-      | inl h ↦ and_right (not (leb k j)) x (f h)
-      | inr h ↦ and_left (not (leb k j)) x (ap not (le-leb k j (omega arith)))
-    ]
+  pub peek_by : (a : ℕ)
+      → By a (size m) (size n) (hides_beside m) (hides_beside n) (peek_no (pile m n) a) (peek_no m a) (peek_no n) (peek_aim m n a)
+  peek_by a =
+      by_aim a (size m) (size n) (hides_beside m) (hides_beside n) (peek_no (pile m n) a) (peek_no m a) (peek_no n)
+      (peek_left m n lm lone a) (peek_right m n lm lone a)
 
--- Time that passes on both sides.
-pub passes : (l : Bool) (m n : Meaning) (k : ℕ) (m' n' : Meaning) → Lawful m → l ≡ true → fits m n ≡ true
-    → m' ≡ after_pass m k → n' ≡ after_pass n k → joined l m' n' ≡ after_pass (joined l m n) k
-passes l m n k m' n' lm t f p q =
-    on l m' n' t (fits_passed m n k m' n' f p q)
-    ∙ ap (λ (x : Meaning). pile x n') p
-    ∙ ap (pile (after_pass m k)) q
-    ∙ pass_both m n lm (one m n f) k
-    ∙ ap (λ (x : Meaning). after_pass x k) (sym (on l m n t f))
+  pub burn_by : (a byte : ℕ)
+      → By a (size m) (size n) (bars_beside m) (bars_beside n) (burn_no (pile m n) a byte) (burn_no m a byte) (λ i. burn_no n i byte) (burn_aim m n a)
+  burn_by a byte =
+      by_aim a (size m) (size n) (bars_beside m) (bars_beside n) (burn_no (pile m n) a byte) (burn_no m a byte) (λ i. burn_no n i byte)
+      (λ h. burn_left m n lm lone a h byte) (λ h. burn_right m n lm lone a h byte)
 
-pub pass_second : (l : Bool) (m n : Meaning) (k : ℕ) (p : Result Progress PartFault) → Lawful m → l ≡ true → fits m n ≡ true → stands m.erasure ≡ false
-    → p ≡ answer (time_no k) k (progress n k n.erasure) → p ≡ answer (time_no k) k (progress (joined l m n) k (joined l m n).erasure)
-pass_second l m n k p lm t f i q =
-    q
-    ∙ ap (answer (time_no k) k)
-    (sym (ap (λ (x : Meaning). progress x k x.erasure) (on l m n t f) ∙ progress_second m n lm (one m n f) k i))
+  pub begin_by : (b : ℕ)
+      → By b (count m) (count n) (stands m) (stands n) (begin_no (pile m n) b) (begin_no m b) (begin_no n) (begin_aim m n b)
+  begin_by b =
+      by_aim b (count m) (count n) (stands m) (stands n) (begin_no (pile m n) b) (begin_no m b) (begin_no n)
+      (begin_left m n lm lone b) (begin_right m n lm lone b)
 
-module _ (l : Bool) (m n : Meaning) (s t : Shape) (v : Seen l m n s t) where
-  lit : joined l m n ≡ pile m n
-  lit = on l m n v.live v.fit
+  pile_same : (m' n' : Meaning) → m' ≡ m → n' ≡ n → pile m' n' ≡ pile m n
+  pile_same m' n' p q = ap (λ (x : Meaning). pile x n') p ∙ ap (pile m) q
 
-  lone : One m.erasure n.erasure
-  lone = one m n v.fit
-
-  size_first : s.size ≡ size m
-  size_first = ap (λ (x : Shape). x.size) v.first
-
-  count_first : s.blocks ≡ count m
-  count_first = ap (λ (x : Shape). x.blocks) v.first
-
-  size_second : t.size ≡ size n
-  size_second = ap (λ (x : Shape). x.size) v.second
-
-  count_second : t.blocks ≡ count n
-  count_second = ap (λ (x : Shape). x.blocks) v.second
-
-  first_stands : stands m.erasure ≡ stood s.standing
-  first_stands = sym (stood_is m.erasure) ∙ ap (λ (x : Shape). stood x.standing) (sym v.first)
-
-  second_stands : stands n.erasure ≡ stood t.standing
-  second_stands = sym (stood_is n.erasure) ∙ ap (λ (x : Shape). stood x.standing) (sym v.second)
-
-  first_runs : runs m.erasure ≡ ran s.standing
-  first_runs = sym (ran_is m.erasure) ∙ ap (λ (x : Shape). ran x.standing) (sym v.first)
-
-  second_runs : runs n.erasure ≡ ran t.standing
-  second_runs = sym (ran_is n.erasure) ∙ ap (λ (x : Shape). ran x.standing) (sym v.second)
-
-  -- A block of the second side.
-  pub block_room : (b : ℕ) (r : Option Block) → r ≡ block_at n b → LaterRoom r s.size
-  block_room b r e =
-      subst (λ (o : Option Block). LaterRoom o s.size) (sym e)
-      (subst (λ (x : ℕ). LaterRoom (block_at n b) x) (sym size_first) (later_room m n v.first_lawful v.second_lawful b))
-
-  pub block_second : (b : ℕ) (r q : Option Block) → s.blocks ≤ b → r ≡ block_at n (b - s.blocks) → q ≡ later r s.size → q ≡ block_at (joined l m n) b
-  block_second b r q h e f =
-      f
-      ∙ ap (λ (o : Option Block). later o s.size) e
-      ∙ ap (λ (x : Shape). later (block_at n (b - x.blocks)) x.size) v.first
-      ∙ sym (block_right m n v.first_lawful b (omega (arith, count_first)))
-      ∙ ap (λ (x : Meaning). block_at x b) (sym lit)
-
-  -- An address of the first side.
-  module _ (a : ℕ) (h : a < s.size) where
-    low : a < size m
-    low = omega (arith, size_first)
-
-    pub peek_first : (p : Result ℕ PartFault) → ran t.standing ≡ false → p ≡ answer (peek_no m a) a (cell m a)
-        → p ≡ answer (peek_no (joined l m n) a) a (cell (joined l m n) a)
-    peek_first p i q =
-        let w : peek_no (pile m n) a ≡ peek_no m a = peek_left m n v.first_lawful lone a low ∙ cond-false _ _ _ (second_runs ∙ i) in
-        q
-        ∙ ap (answer (peek_no m a) a) (sym (cell_left m n v.first_lawful lone a low))
-        ∙ ap (λ (why : Option Cause). answer why a (cell (pile m n) a)) (sym w)
-        ∙ ap (λ (x : Meaning). answer (peek_no x a) a (cell x a)) (sym lit)
-
-    module _ (byte : ℕ) (i : stood t.standing ≡ false) where
-      burn_no_first : burn_no (pile m n) a byte ≡ burn_no m a byte
-      burn_no_first = burn_left m n v.first_lawful lone a low byte ∙ cond-false _ _ _ (second_stands ∙ i)
-
-      pub burn_first : (p : Result (Unit {0}) PartFault) → p ≡ answer (burn_no m a byte) a tt → p ≡ answer (burn_no (joined l m n) a byte) a tt
-      burn_first p q = q ∙ ap (λ (why : Option Cause). answer why a tt) (sym (ap (λ (x : Meaning). burn_no x a byte) lit ∙ burn_no_first))
-
-      pub burns_first : (m' n' : Meaning) → Burnt m a byte m' → n' ≡ after_pass n (elapsed m.clock m'.clock) → Burnt (joined l m n) a byte (joined l m' n')
-      burns_first m' n' w q =
-          let f : fits m' n' ≡ true = fits_burnt_first m n a byte m' n' v.fit w q in
-          let d : BurntBy (pile m n) a byte (burn_no m a byte) (pile m' n') =
-          burnt_first m n v.first_lawful v.second_lawful a byte (burn_no m a byte) m' n' low (second_stands ∙ i) w q in
-          subst (λ (x : Meaning). Burnt x a byte (joined l m' n')) (sym lit)
-          (subst (λ (why : Option Cause). BurntBy (pile m n) a byte why (joined l m' n')) (sym burn_no_first)
-          (subst (BurntBy (pile m n) a byte (burn_no m a byte)) (sym (on l m' n' v.live f)) d))
-
-  -- An address past the first side.
-  module _ (a i : ℕ) (h : a ≡ s.size + i) where
-    high : size m ≤ a
-    high = omega (arith, size_first)
-
-    inner : a - size m ≡ i
-    inner = omega (arith, size_first)
-
-    pub peek_second : (p q : Result ℕ PartFault) → (i < t.size → ran s.standing ≡ false) → p ≡ answer (peek_no n i) i (cell n i) → q ≡ placed p a
-        → q ≡ answer (peek_no (joined l m n) a) a (cell (joined l m n) a)
-    peek_second p q c e w =
-        let r : peek_no (pile m n) a ≡ peek_no n i =
-        peek_right m n v.first_lawful lone a high
-        ∙ cond-false _ _ _ (clear i (size n) (a - size m) (runs m.erasure) inner (λ k. first_runs ∙ c (omega (arith, size_second))))
-        ∙ ap (peek_no n) inner in
-        w
-        ∙ ap (λ (x : Result ℕ PartFault). placed x a) e
-        ∙ placed_answer (peek_no n i) i a (cell n i)
-        ∙ ap (answer (peek_no n i) a) (sym (cell_right m n v.first_lawful lone a high ∙ ap (cell n) inner))
-        ∙ ap (λ (why : Option Cause). answer why a (cell (pile m n) a)) (sym r)
-        ∙ ap (λ (x : Meaning). answer (peek_no x a) a (cell x a)) (sym lit)
-
-    module _ (byte : ℕ) (c : i < t.size → stood s.standing ≡ false) where
-      burn_no_second : burn_no (pile m n) a byte ≡ burn_no n i byte
-      burn_no_second =
-          burn_right m n v.first_lawful lone a high byte
-          ∙ cond-false _ _ _ (clear i (size n) (a - size m) (stands m.erasure) inner (λ k. first_stands ∙ c (omega (arith, size_second))))
-          ∙ ap (λ (x : ℕ). burn_no n x byte) inner
-
-      pub burn_second : (p : Result (Unit {0}) PartFault) → p ≡ placed (answer (burn_no n i byte) i tt) a → p ≡ answer (burn_no (joined l m n) a byte) a tt
-      burn_second p e =
-          e
-          ∙ placed_answer (burn_no n i byte) i a tt
-          ∙ ap (λ (why : Option Cause). answer why a tt) (sym (ap (λ (x : Meaning). burn_no x a byte) lit ∙ burn_no_second))
+  -- A burn.
+  burn_sent : (a byte : ℕ) (m' n' : Meaning) (o : Option Aim)
+      → By a (size m) (size n) (bars_beside m) (bars_beside n) (burn_no (pile m n) a byte) (burn_no m a byte) (λ i. burn_no n i byte) o
+      → Went (sent o (burn a byte) (λ i. burn i byte)) m n m' n' → Burnt (pile m n) a byte (pile m' n') × (fits m' n' ≡ true)
+  burn_sent a byte m' n' None e w =
+      (subst (λ (why : Option Cause). BurntBy (pile m n) a byte why (pile m' n')) (sym e) (pile_same m' n' w.0 w.1), fits_same m n m' n' f w.0 w.1)
+  burn_sent a byte m' n' (Some First) e w = (
+    subst (λ (why : Option Cause). BurntBy (pile m n) a byte why (pile m' n')) (sym e.2)
+        (burnt_first m n lm ln a byte (burn_no m a byte) m' n' e.0 (unbarred_still n e.1) w.0 w.1),
+    fits_burnt_first m n a byte m' n' (elapsed m.clock m'.clock) f w.0 w.1,
+  )
+  burn_sent a byte m' n' (Some (Second i)) e w = (
+    subst (λ (why : Option Cause). BurntBy (pile m n) a byte why (pile m' n')) (sym e.2)
+        (elim (cases_lt i (size n)) [ inl k ↦ within k | inr k ↦ past_end k ]),
+    fits_burnt_second m n i byte m' n' (elapsed n.clock n'.clock) f w.1 w.0,
+  )
+    where
+      within : i < size n → BurntBy (pile m n) a byte (burn_no n i byte) (pile m' n')
+      within k =
+          let inner : i ≡ a - size m = omega (arith, e.0) in
+          burnt_second m n lm ln a byte (burn_no n i byte) m' n' (omega (arith, e.0)) (unbarred_still m (e.1 k))
+          (subst (λ (x : ℕ). BurntBy n x byte (burn_no n i byte) n') inner w.1) w.0
 
       -- past the end of the second side nothing is burnt, whatever erasure the first has
-      burns_past : (m' n' : Meaning) → size n ≤ i → Burnt n i byte n' → m' ≡ after_pass m (elapsed n.clock n'.clock)
-          → BurntBy (pile m n) a byte (burn_no n i byte) (pile m' n')
-      burns_past m' n' k w q =
+      past_end : size n ≤ i → BurntBy (pile m n) a byte (burn_no n i byte) (pile m' n')
+      past_end k =
           let p : burn_no n i byte ≡ Some AddressOutside = cond-true _ _ _ (le-leb (size n) i k) in
-          let z : n' ≡ n = subst (λ (why : Option Cause). BurntBy n i byte why n') p w in
-          subst (λ (why : Option Cause). BurntBy (pile m n) a byte why (pile m' n')) (sym p)
-          (same_second m n v.first_lawful v.second_lawful m' n' z q)
+          let z : n' ≡ n = subst (λ (why : Option Cause). BurntBy n i byte why n') p w.1 in
+          subst (λ (why : Option Cause). BurntBy (pile m n) a byte why (pile m' n')) (sym p) (same_second m n lm ln m' n' z w.0)
 
-      burns_within : (m' n' : Meaning) → i < size n → Burnt n i byte n' → m' ≡ after_pass m (elapsed n.clock n'.clock)
-          → BurntBy (pile m n) a byte (burn_no n i byte) (pile m' n')
-      burns_within m' n' k w q =
-          burnt_second m n v.first_lawful v.second_lawful a byte (burn_no n i byte) m' n' high (first_stands ∙ c (omega (arith, size_second)))
-          (subst (λ (x : ℕ). BurntBy n x byte (burn_no n i byte) n') (sym inner) w) q
+  -- The beginning of an erasure.
+  begin_sent : (b : ℕ) (m' n' : Meaning) (o : Option Aim)
+      → By b (count m) (count n) (stands m) (stands n) (begin_no (pile m n) b) (begin_no m b) (begin_no n) o
+      → Went (sent o (begin b) begin) m n m' n' → Begun (pile m n) b (pile m' n') × (fits m' n' ≡ true)
+  begin_sent b m' n' None e w =
+      (subst (λ (why : Option Cause). BegunBy (pile m n) b why (pile m' n')) (sym e) (pile_same m' n' w.0 w.1), fits_same m n m' n' f w.0 w.1)
+  begin_sent b m' n' (Some First) e w =
+      let z : n' ≡ n = no_time m.clock m'.clock n n' ln lm.clock (begun_clock m n lm ln m b (begin_no m b) m' w.0) w.1 in (
+        subst (λ (why : Option Cause). BegunBy (pile m n) b why (pile m' n')) (sym e.2)
+            (subst (λ (x : Meaning). BegunBy (pile m n) b (begin_no m b) (pile m' x)) (sym z) (begun_first m n lm ln b (begin_no m b) m' w.0)),
+        ap (fits m') z ∙ fits_begun_first m n b (begin_no m b) m' f e.1 w.0,
+      )
+  begin_sent b m' n' (Some (Second i)) e w = (
+    subst (λ (why : Option Cause). BegunBy (pile m n) b why (pile m' n')) (sym e.2)
+        (subst (λ (x : Meaning). BegunBy (pile m n) b (begin_no n i) (pile x n')) (sym z) whole),
+    ap (λ (x : Meaning). fits x n') z ∙ fit,
+  )
+    where
+      z : m' ≡ m
+      z = no_time n.clock n'.clock m m' lm ln.clock (begun_clock m n lm ln n i (begin_no n i) n' w.1) w.0
 
-      pub burns_second : (m' n' : Meaning) → Burnt n i byte n' → m' ≡ after_pass m (elapsed n.clock n'.clock)
-          → Burnt (joined l m n) a byte (joined l m' n')
-      burns_second m' n' w q =
-          let f : fits m' n' ≡ true = fits_burnt_second m n i byte m' n' v.fit w q in
-          let d : BurntBy (pile m n) a byte (burn_no n i byte) (pile m' n') =
-          elim (cases_lt i (size n)) [ inl k ↦ burns_within m' n' k w q | inr k ↦ burns_past m' n' k w q ] in
-          subst (λ (x : Meaning). Burnt x a byte (joined l m' n')) (sym lit)
-          (subst (λ (why : Option Cause). BurntBy (pile m n) a byte why (joined l m' n')) (sym burn_no_second)
-          (subst (BurntBy (pile m n) a byte (burn_no n i byte)) (sym (on l m' n' v.live f)) d))
+      -- where there is no such block nothing is begun, whatever erasure the first side has
+      untouched : count n ≤ i → (begin_no n i ≡ Some NoSuchBlock) × (n' ≡ n)
+      untouched k =
+          let p : begin_no n i ≡ Some NoSuchBlock = cond-true _ _ _ (le-leb (count n) i k) in
+          (p, subst (λ (why : Option Cause). BegunBy n i why n') p w.1)
 
-  -- A block of the first side.
-  module _ (b : ℕ) (h : b < s.blocks) (i : stood t.standing ≡ false) where
-    begin_no_first : begin_no (pile m n) b ≡ begin_no m b
-    begin_no_first = begin_left m n v.first_lawful lone b (omega (arith, count_first)) ∙ cond-false _ _ _ (second_stands ∙ i)
+      whole : BegunBy (pile m n) b (begin_no n i) (pile m n')
+      whole =
+          elim (cases_lt i (count n)) [
+            | inl k ↦
+                let inner : i ≡ b - count m = omega (arith, e.0) in
+                begun_second m n lm ln b (begin_no n i) n' (omega (arith, e.0)) (e.1 k)
+                (subst (λ (x : ℕ). BegunBy n x (begin_no n i) n') inner w.1)
+            | inr k ↦
+                let u = untouched k in
+                subst (λ (why : Option Cause). BegunBy (pile m n) b why (pile m n')) (sym u.0) (ap (pile m) u.1)
+          ]
 
-    pub begin_first : (p : Result (Unit {0}) PartFault) → p ≡ answer (begin_no m b) b tt → p ≡ answer (begin_no (joined l m n) b) b tt
-    begin_first p q = q ∙ ap (λ (why : Option Cause). answer why b tt) (sym (ap (λ (x : Meaning). begin_no x b) lit ∙ begin_no_first))
+      fit : fits m n' ≡ true
+      fit =
+          elim (cases_lt i (count n)) [
+            | inl k ↦ fits_begun_second m n i (begin_no n i) n' f (e.1 k) w.1
+            | inr k ↦ ap (fits m) (untouched k).1 ∙ f
+          ]
 
-    pub fit_begun_first : (m' : Meaning) → Begun m b m' → fits m' n ≡ true
-    fit_begun_first m' w = fits_begun_first m n b (begin_no m b) m' v.fit (second_stands ∙ i) w
+  -- A hold, and a going on.
+  second_still : stands m ≡ true → runs n ≡ false
+  second_still s = unbarred_still n (ap (λ (x : Bool). x && stands n) (sym s) ∙ lone)
 
-    pub begins_first : (m' : Meaning) → Begun m b m' → Begun (joined l m n) b (joined l m' n)
-    begins_first m' w =
-        subst (λ (x : Meaning). Begun x b (joined l m' n)) (sym lit)
-        (subst (λ (why : Option Cause). BegunBy (pile m n) b why (joined l m' n)) (sym begin_no_first)
-        (subst (BegunBy (pile m n) b (begin_no m b)) (sym (on l m' n v.live (fit_begun_first m' w)))
-        (begun_first m n v.first_lawful v.second_lawful b (begin_no m b) m' w)))
+  hold_sent : (m' n' : Meaning) → Went (turn_way m hold) m n m' n' → Held (pile m n) (pile m' n') × (fits m' n' ≡ true)
+  hold_sent m' n' =
+      cond_both (stands m) (to_first hold) (to_second hold) (λ (x : Way). Went x m n m' n' → Held (pile m n) (pile m' n') × (fits m' n' ≡ true))
+      (λ s w. (held_first m n lm ln m' n' s (second_still s) w.0 w.1, fits_held_first m n m' n' (elapsed m.clock m'.clock) f w.0 w.1))
+      (λ s w. (held_second m n lm ln m' n' s w.1 w.0, fits_held_second m n m' n' (elapsed n.clock n'.clock) f w.1 w.0))
 
-  -- A block past the first side.
-  module _ (b i : ℕ) (h : b ≡ s.blocks + i) (c : i < t.blocks → stood s.standing ≡ false) where
-    past : count m ≤ b
-    past = omega (arith, count_first)
+  go_sent : (m' n' : Meaning) → Went (turn_way m go_on) m n m' n' → (pile m' n' ≡ gone_on (pile m n)) × (fits m' n' ≡ true)
+  go_sent m' n' =
+      cond_both (stands m) (to_first go_on) (to_second go_on) (λ (x : Way). Went x m n m' n' → (pile m' n' ≡ gone_on (pile m n)) × (fits m' n' ≡ true))
+      (λ s w. (gone_first m n lm ln m' n' s w.0 w.1, fits_gone_first m n m' n' (elapsed m.clock m'.clock) f w.0 w.1))
+      (λ s w. (gone_second m n lm ln m' n' s w.1 w.0, fits_gone_second m n m' n' (elapsed n.clock n'.clock) f w.1 w.0))
 
-    nth : b - count m ≡ i
-    nth = omega (arith, count_first)
+  -- A live one's calls.
+  pub live_made : (c : Call) (m' n' : Meaning) → Went (way (record { live = true; first = m; second = n }) c) m n m' n'
+      → Made (pile m n) c (pile m' n') × (fits m' n' ≡ true)
+  live_made look m' n' w = (pile_same m' n' w.0 w.1, fits_same m n m' n' f w.0 w.1)
+  live_made (burn a byte) m' n' w = burn_sent a byte m' n' (burn_aim m n a) (burn_by a byte) w
+  live_made (begin b) m' n' w = begin_sent b m' n' (begin_aim m n b) (begin_by b) w
+  live_made hold m' n' w = hold_sent m' n' w
+  live_made go_on m' n' w = go_sent m' n' w
+  live_made (pass k) m' n' w =
+      (ap (λ (x : Meaning). pile x n') w.0 ∙ ap (pile (after_pass m k)) w.1 ∙ pass_both m n lm lone k, fits_passed m n k m' n' f w.0 w.1)
 
-    begin_no_second : begin_no (pile m n) b ≡ begin_no n i
-    begin_no_second =
-        begin_right m n v.first_lawful lone b past
-        ∙ cond-false _ _ _ (clear i (count n) (b - count m) (stands m.erasure) nth (λ k. first_stands ∙ c (omega (arith, count_second))))
-        ∙ ap (begin_no n) nth
+-- A dead one's calls: none is accepted, but time passes.
+dead_same : (m m' : Meaning) → m' ≡ m → no_part m'.clock ≡ no_part m.clock
+dead_same m m' e = ap (λ (x : Meaning). no_part x.clock) e
 
-    pub begin_second : (p q : Result (Unit {0}) PartFault) → p ≡ answer (begin_no n i) i tt → q ≡ placed p b → q ≡ answer (begin_no (joined l m n) b) b tt
-    begin_second p q e w =
-        w
-        ∙ ap (λ (x : Result (Unit {0}) PartFault). placed x b) e
-        ∙ placed_answer (begin_no n i) i b tt
-        ∙ ap (λ (why : Option Cause). answer why b tt) (sym (ap (λ (x : Meaning). begin_no x b) lit ∙ begin_no_second))
+dead_made : (m n : Meaning) (c : Call) (m' n' : Meaning) → Went (way (record { live = false; first = m; second = n }) c) m n m' n'
+    → Made (no_part m.clock) c (no_part m'.clock)
+dead_made m n look m' n' w = dead_same m m' w.0
+dead_made m n (burn a byte) m' n' w =
+    subst (λ (why : Option Cause). BurntBy (no_part m.clock) a byte why (no_part m'.clock))
+    (sym (cond-true (leb 0 a) (Some AddressOutside) _ (le-leb 0 a (omega arith)))) (dead_same m m' w.0)
+dead_made m n (begin b) m' n' w =
+    subst (λ (why : Option Cause). BegunBy (no_part m.clock) b why (no_part m'.clock))
+    (sym (cond-true (leb 0 b) (Some NoSuchBlock) _ (le-leb 0 b (omega arith)))) (dead_same m m' w.0)
+dead_made m n hold m' n' w = dead_same m m' w.0
+dead_made m n go_on m' n' w = dead_same m m' w.0
+dead_made m n (pass k) m' n' w = ap (λ (x : Meaning). no_part x.clock) w.0 ∙ passed_dead (leb k longest) (run_clock m k m.erasure)
+  where
+    passed_dead : (t : Bool) → (run_on m k m.erasure).clock ≡ m.clock
+        → no_part (cond t (passed m k) m).clock ≡ cond t (passed (no_part m.clock) k) (no_part m.clock)
+    passed_dead true e = ap (λ (x : ℕ). no_part ((x + k) % 4294967296)) e
+    passed_dead false e = refl
 
-    -- where there is no such block nothing is begun, whatever erasure the first side has
-    untouched : (n' : Meaning) → count n ≤ i → Begun n i n' → (begin_no n i ≡ Some NoSuchBlock) × (n' ≡ n)
-    untouched n' k w =
-        let p : begin_no n i ≡ Some NoSuchBlock = cond-true _ _ _ (le-leb (count n) i k) in
-        (p, subst (λ (why : Option Cause). BegunBy n i why n') p w)
+-- What is known of a joined part at any time: both sides are lawful, and a live one's fit together.
+pub record Sound (s : Sides) : Type 0 where
+  pub first : Lawful s.first
+  pub second : Lawful s.second
+  pub fit : s.live ≡ true → fits s.first s.second ≡ true
 
-    pub fit_begun_second : (n' : Meaning) → Begun n i n' → fits m n' ≡ true
-    fit_begun_second n' w =
-        elim (cases_lt i (count n)) [
-          | inl k ↦ fits_begun_second m n i (begin_no n i) n' v.fit (first_stands ∙ c (omega (arith, count_second))) w
-          | inr k ↦ ap (fits m) (untouched n' k w).1 ∙ v.fit
-        ]
+pub record Kept (s : Sides) (c : Call) (t : Sides) : Type 0 where
+  pub whole : Made (whole_of s) c (whole_of t)
+  pub fit : t.live ≡ true → fits t.first t.second ≡ true
 
-    begun_either : (n' : Meaning) → Begun n i n' → BegunBy (pile m n) b (begin_no n i) (pile m n')
-    begun_either n' w =
-        elim (cases_lt i (count n)) [
-          | inl k ↦
-              begun_second m n v.first_lawful v.second_lawful b (begin_no n i) n' past (first_stands ∙ c (omega (arith, count_second)))
-              (subst (λ (x : ℕ). BegunBy n x (begin_no n i) n') (sym nth) w)
-          | inr k ↦
-              let u = untouched n' k w in
-              subst (λ (why : Option Cause). BegunBy (pile m n) b why (pile m n')) (sym u.0) (ap (pile m) u.1)
-        ]
+-- The call of the sides is the call of the whole, and the sides of a live one still fit together.
+pub kept : (s t : Sides) (c : Call) → Sound s → Called s c t → Kept s c t
+kept s t c v w = by s.live t.live v.fit w.live w.sides
+  where
+    by : (l k : Bool) → (l ≡ true → fits s.first s.second ≡ true) → k ≡ l
+        → Went (way (record { live = l; first = s.first; second = s.second }) c) s.first s.second t.first t.second
+        → Kept (record { live = l; first = s.first; second = s.second }) c (record { live = k; first = t.first; second = t.second })
+    by true true f e w =
+        let d = live_made s.first s.second v.first v.second (f refl) c t.first t.second w in
+        record { whole = d.0; fit = λ _. d.1 }
+    by true false f e w = absurd (true≢false (sym e))
+    by false true f e w = absurd (true≢false e)
+    by false false f e w = record { whole = dead_made s.first s.second c t.first t.second w; fit = λ h. absurd (true≢false (sym h)) }
 
-    pub begins_second : (n' : Meaning) → Begun n i n' → Begun (joined l m n) b (joined l m n')
-    begins_second n' w =
-        subst (λ (x : Meaning). Begun x b (joined l m n')) (sym lit)
-        (subst (λ (why : Option Cause). BegunBy (pile m n) b why (joined l m n')) (sym begin_no_second)
-        (subst (BegunBy (pile m n) b (begin_no n i)) (sym (on l m n' v.live (fit_begun_second n' w))) (begun_either n' w)))
+-- The aim of a call, by what the sides told.
+module _ (m n : Meaning) (s t : Shape) (x y : Bool) (first : s ≡ shape_of m) (second : t ≡ shape_of n) where
+  aim_bytes : (a : ℕ) (u v : Bool) → x ≡ u → y ≡ v → aimed a s.size t.size x y ≡ aimed a (size m) (size n) u v
+  aim_bytes a u v p q =
+      ap (λ (z : Shape). aimed a z.size t.size x y) first
+      ∙ ap (λ (z : Shape). aimed a (size m) z.size x y) second
+      ∙ ap (λ (z : Bool). aimed a (size m) (size n) z y) p
+      ∙ ap (aimed a (size m) (size n) u) q
+
+  aim_blocks : (b : ℕ) (u v : Bool) → x ≡ u → y ≡ v → aimed b s.blocks t.blocks x y ≡ aimed b (count m) (count n) u v
+  aim_blocks b u v p q =
+      ap (λ (z : Shape). aimed b z.blocks t.blocks x y) first
+      ∙ ap (λ (z : Shape). aimed b (count m) z.blocks x y) second
+      ∙ ap (λ (z : Bool). aimed b (count m) (count n) z y) p
+      ∙ ap (aimed b (count m) (count n) u) q
+
+  pub peek_aimed : (a : ℕ) (o : Option Aim) → x ≡ ran s.standing → y ≡ ran t.standing → aimed a s.size t.size x y ≡ o → peek_aim m n a ≡ o
+  peek_aimed a o p q e =
+      sym (aim_bytes a (hides_beside m) (hides_beside n)
+      (p ∙ ap (λ (z : Shape). ran z.standing) first ∙ ran_is m)
+      (q ∙ ap (λ (z : Shape). ran z.standing) second ∙ ran_is n)) ∙ e
+
+  pub burn_aimed : (a : ℕ) (o : Option Aim) → x ≡ stood s.standing → y ≡ stood t.standing → aimed a s.size t.size x y ≡ o → burn_aim m n a ≡ o
+  burn_aimed a o p q e =
+      sym (aim_bytes a (bars_beside m) (bars_beside n)
+      (p ∙ ap (λ (z : Shape). stood z.standing) first ∙ stood_is m)
+      (q ∙ ap (λ (z : Shape). stood z.standing) second ∙ stood_is n)) ∙ e
+
+  pub begin_aimed : (b : ℕ) (o : Option Aim) → x ≡ stood s.standing → y ≡ stood t.standing → aimed b s.blocks t.blocks x y ≡ o → begin_aim m n b ≡ o
+  begin_aimed b o p q e =
+      sym (aim_blocks b (stands m) (stands n)
+      (p ∙ ap (λ (z : Shape). stood z.standing) first ∙ stood_is m)
+      (q ∙ ap (λ (z : Shape). stood z.standing) second ∙ stood_is n)) ∙ e
+
+-- A live part's calls by their aim: what was done, and what is answered.
+module _ (l : Bool) (m n : Meaning) (v : Sound (record { live = l; first = m; second = n })) (t : l ≡ true) where
+  on : joined l m n ≡ pile m n
+  on = cond-true l _ _ t
+
+  fit : fits m n ≡ true
+  fit = v.fit t
+
+  pub burn_called : (a byte : ℕ) (o : Option Aim) (m' n' : Meaning) → burn_aim m n a ≡ o → Went (sent o (burn a byte) (λ i. burn i byte)) m n m' n'
+      → Called (record { live = l; first = m; second = n }) (burn a byte) (record { live = l; first = m'; second = n' })
+  burn_called a byte o m' n' e w = record {
+    live = refl;
+    sides =
+        subst (λ (x : Way). Went x m n m' n')
+        (sym (cond-true l (sent (burn_aim m n a) (burn a byte) (λ i. burn i byte)) neither t
+        ∙ ap (λ (x : Option Aim). sent x (burn a byte) (λ i. burn i byte)) e)) w;
+  }
+
+  pub begin_called : (b : ℕ) (o : Option Aim) (m' n' : Meaning) → begin_aim m n b ≡ o → Went (sent o (begin b) begin) m n m' n'
+      → Called (record { live = l; first = m; second = n }) (begin b) (record { live = l; first = m'; second = n' })
+  begin_called b o m' n' e w = record {
+    live = refl;
+    sides =
+        subst (λ (x : Way). Went x m n m' n')
+        (sym (cond-true l (sent (begin_aim m n b) (begin b) begin) neither t ∙ ap (λ (x : Option Aim). sent x (begin b) begin) e)) w;
+  }
+
+  -- no time passes beside the beginning of an erasure
+  pub begun_beside : (b : ℕ) (m' : Meaning) → Begun m b m' → n ≡ passed n (elapsed m.clock m'.clock)
+  begun_beside b m' w = none_passed m n v.first v.second m'.clock (begun_clock m n v.first v.second m b (begin_no m b) m' w)
+
+  pub begun_beside_second : (b : ℕ) (n' : Meaning) → Begun n b n' → m ≡ passed m (elapsed n.clock n'.clock)
+  begun_beside_second b n' w = none_passed n m v.second v.first n'.clock (begun_clock m n v.first v.second n b (begin_no n b) n' w)
+
+  pub peek_why : (a : ℕ) (o : Option Aim) → peek_aim m n a ≡ o
+      → By a (size m) (size n) (hides_beside m) (hides_beside n) (peek_no (joined l m n) a) (peek_no m a) (peek_no n) o
+  peek_why a o e =
+      subst (λ (x : Meaning). By a (size m) (size n) (hides_beside m) (hides_beside n) (peek_no x a) (peek_no m a) (peek_no n) o) (sym on)
+      (subst (By a (size m) (size n) (hides_beside m) (hides_beside n) (peek_no (pile m n) a) (peek_no m a) (peek_no n)) e
+      (peek_by m n v.first v.second fit a))
+
+  pub burn_why : (a byte : ℕ) (o : Option Aim) → burn_aim m n a ≡ o
+      → By a (size m) (size n) (bars_beside m) (bars_beside n) (burn_no (joined l m n) a byte) (burn_no m a byte) (λ i. burn_no n i byte) o
+  burn_why a byte o e =
+      subst (λ (x : Meaning). By a (size m) (size n) (bars_beside m) (bars_beside n) (burn_no x a byte) (burn_no m a byte) (λ i. burn_no n i byte) o)
+      (sym on)
+      (subst (By a (size m) (size n) (bars_beside m) (bars_beside n) (burn_no (pile m n) a byte) (burn_no m a byte) (λ i. burn_no n i byte)) e
+      (burn_by m n v.first v.second fit a byte))
+
+  pub begin_why : (b : ℕ) (o : Option Aim) → begin_aim m n b ≡ o
+      → By b (count m) (count n) (stands m) (stands n) (begin_no (joined l m n) b) (begin_no m b) (begin_no n) o
+  begin_why b o e =
+      subst (λ (x : Meaning). By b (count m) (count n) (stands m) (stands n) (begin_no x b) (begin_no m b) (begin_no n) o) (sym on)
+      (subst (By b (count m) (count n) (stands m) (stands n) (begin_no (pile m n) b) (begin_no m b) (begin_no n)) e
+      (begin_by m n v.first v.second fit b))
+
+  -- the cells of both sides
+  pub cell_first : (a : ℕ) → a < size m → cell (joined l m n) a ≡ cell m a
+  cell_first a h = ap (λ (x : Meaning). cell x a) on ∙ cell_left m n v.first (one m n fit) a h
+
+  pub cell_second : (a i : ℕ) → a ≡ size m + i → cell (joined l m n) a ≡ cell n i
+  cell_second a i h =
+      let k : a - size m ≡ i = omega arith in
+      ap (λ (x : Meaning). cell x a) on ∙ cell_right m n v.first (one m n fit) a (omega arith) ∙ ap (cell n) k
+
+  -- a block of the second side
+  pub block_room : (b : ℕ) (s : Shape) (r : Option Block) → s ≡ shape_of m → r ≡ block_at n b → LaterRoom r s.size
+  block_room b s r f e =
+      subst (λ (o : Option Block). LaterRoom o s.size) (sym e)
+      (subst (λ (x : Shape). LaterRoom (block_at n b) x.size) (sym f) (later_room m n v.second fit b))
+
+  pub block_second : (b : ℕ) (s : Shape) (r q : Option Block) → s ≡ shape_of m → s.blocks ≤ b → r ≡ block_at n (b - s.blocks) → q ≡ later r s.size
+      → q ≡ block_at (joined l m n) b
+  block_second b s r q f h e d =
+      d
+      ∙ ap (λ (o : Option Block). later o s.size) e
+      ∙ ap (λ (x : Shape). later (block_at n (b - x.blocks)) x.size) f
+      ∙ sym (block_right m n v.first b (omega (arith, ap (λ (x : Shape). x.blocks) f)))
+      ∙ ap (λ (x : Meaning). block_at x b) (sym on)
+
+-- An answer with the place that the caller gave.
+pub placed_answer : {X : Type 0} (why : Option Cause) (inner place : ℕ) (x : X) → placed (answer why inner x) place ≡ answer why place x
+placed_answer None inner place x = refl
+placed_answer (Some cause) inner place x = refl

@@ -1,4 +1,3 @@
 pub mod Pile
-pub mod Asking
-pub mod Refusing
-pub mod Rows
+pub mod Sides
+pub mod LawfulProof

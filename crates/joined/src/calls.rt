@@ -1,22 +1,26 @@
-// The joined part's calls as a part.
+// The joined part's calls as a part. Each says what it does to the whole, as every part does, and what it does to the two sides.
+ghost use Rattle.std.specs.Prelude.{◌≡◌};
+ghost use Rattle.part.specs.Meaning.{cell};
+ghost use Rattle.part.specs.Calls.{answer, peek_no, burn_no, begin_no, time_no, Burnt, Begun, Held, can_hold, can_go, gone_on, progress, after_pass};
+ghost use Rattle.part.specs.Laws.{look, burn, begin, hold, go_on, pass};
 ghost use Rattle.joined.specs.Pile.{joined as meaning};
-ghost use Rattle.joined.specs.Asking.{lawful_joined};
+ghost use Rattle.joined.specs.Sides.{Called, whole_of};
+ghost use Rattle.joined.specs.LawfulProof.{lawful_joined};
 
-use crate::joined::Joined;
+use crate::aim::Aim;
+use crate::joined::{Joined, TwoSided};
 use crate::sides::{beside, either, placed, refused};
-use geometry::Block;
 use fault::{Cause, PartFault};
+use geometry::Block;
 use part::{Part, Progress, Shape, Standing, Turn};
 
-// peek, burn and begin have one frame: which side, what is in the way, the inner place. A function for it would take two closures and four numbers,
-// and be no plainer.
-impl<P: Part + Drop, Q: Part + Drop> Part for Joined<P, Q> {
-    ghost means = { λ s. meaning s.live (P.Part.means s.first) (Q.Part.means s.second) };
+impl<P: Part, Q: Part> Part for Joined<P, Q> {
+    ghost means = { λ s. meaning s.live (P.Part.means s.first.part) (Q.Part.means s.second.part) };
 
-    ghost lawful = { λ s. lawful_joined s.live (P.Part.means s.first) (Q.Part.means s.second) (P.Part.lawful s.first) (Q.Part.lawful s.second) };
+    ghost lawful = { λ s. lawful_joined s.live (P.Part.means s.first.part) (Q.Part.means s.second.part) (P.Part.lawful s.first.part) (Q.Part.lawful s.second.part) s.fit };
 
     fn shape(&self) -> Shape {
-        match self.sides() {
+        match self.shapes() {
             None => Shape {
                 size: 0,
                 blocks: 0,
@@ -31,7 +35,7 @@ impl<P: Part + Drop, Q: Part + Drop> Part for Joined<P, Q> {
     }
 
     fn block(&self, number: u32) -> Option<Block> {
-        let (first, _) = self.sides()?;
+        let (first, _) = self.shapes()?;
         if number < first.blocks {
             self.first.block(number)
         } else {
@@ -43,7 +47,7 @@ impl<P: Part + Drop, Q: Part + Drop> Part for Joined<P, Q> {
     }
 
     fn guarded(&self, block: u32) -> bool {
-        let Some((first, _)) = self.sides() else {
+        let Some((first, _)) = self.shapes() else {
             return false;
         };
         if block < first.blocks {
@@ -58,31 +62,39 @@ impl<P: Part + Drop, Q: Part + Drop> Part for Joined<P, Q> {
     }
 
     // A running erasure hides the cells of the other side too.
-    fn peek(&mut self, address: u32) -> Result<u8, PartFault> {
+    fn peek(&mut self, address: u32) -> Result<u8, PartFault>
+        ensures answer { let m = whole_of (⟦<Joined<P, Q> as TwoSided>⟧.sides self.old) in result ≡ answer (peek_no m address) address (cell m address) }
+        ensures same { whole_of (⟦<Joined<P, Q> as TwoSided>⟧.sides self.new) ≡ whole_of (⟦<Joined<P, Q> as TwoSided>⟧.sides self.old) }
+        ensures sides { Called (⟦<Joined<P, Q> as TwoSided>⟧.sides self.old) look (⟦<Joined<P, Q> as TwoSided>⟧.sides self.new) }
+    {
         let outside = refused(Cause::AddressOutside, address);
         let in_the_way = refused(Cause::ErasureInTheWay, address);
-        let (first, second) = self.sides().ok_or(outside)?;
-        match address.checked_sub(first.size) {
-            None if second.standing.runs() => Err(in_the_way),
-            None => self.first.peek(address),
-            Some(inner) if inner < second.size && first.standing.runs() => Err(in_the_way),
-            Some(inner) => placed(self.second.peek(inner), address),
+        let (first, second) = self.shapes().ok_or(outside)?;
+        let (by_first, by_second) = (first.standing.runs(), second.standing.runs());
+        let aim = Aim::at(address, first.size, second.size, by_first, by_second);
+        match aim.ok_or(in_the_way)? {
+            Aim::First => self.first.peek(address),
+            Aim::Second(inner) => placed(self.second.peek(inner), address),
         }
     }
 
-    fn burn(&mut self, address: u32, byte: u8) -> Result<(), PartFault> {
+    fn burn(&mut self, address: u32, byte: u8) -> Result<(), PartFault>
+        ensures answer { result ≡ answer (burn_no (whole_of (⟦<Joined<P, Q> as TwoSided>⟧.sides self.old)) address byte) address tt }
+        ensures burnt { Burnt (whole_of (⟦<Joined<P, Q> as TwoSided>⟧.sides self.old)) address byte (whole_of (⟦<Joined<P, Q> as TwoSided>⟧.sides self.new)) }
+        ensures sides { Called (⟦<Joined<P, Q> as TwoSided>⟧.sides self.old) (burn address byte) (⟦<Joined<P, Q> as TwoSided>⟧.sides self.new) }
+    {
         let outside = refused(Cause::AddressOutside, address);
         let in_the_way = refused(Cause::ErasureInTheWay, address);
-        let (first, second) = self.sides().ok_or(outside)?;
-        match address.checked_sub(first.size) {
-            None if second.standing.stands() => Err(in_the_way),
-            None => beside(
+        let (first, second) = self.shapes().ok_or(outside)?;
+        let (by_first, by_second) = (first.standing.stands(), second.standing.stands());
+        let aim = Aim::at(address, first.size, second.size, by_first, by_second);
+        match aim.ok_or(in_the_way)? {
+            Aim::First => beside(
                 &mut self.first,
                 &mut self.second,
                 |side| side.burn(address, byte),
             ),
-            Some(inner) if inner < second.size && first.standing.stands() => Err(in_the_way),
-            Some(inner) => beside(
+            Aim::Second(inner) => beside(
                 &mut self.second,
                 &mut self.first,
                 |side| placed(side.burn(inner, byte), address),
@@ -90,20 +102,28 @@ impl<P: Part + Drop, Q: Part + Drop> Part for Joined<P, Q> {
         }
     }
 
-    fn begin(&mut self, block: u32) -> Result<(), PartFault> {
+    fn begin(&mut self, block: u32) -> Result<(), PartFault>
+        ensures answer { result ≡ answer (begin_no (whole_of (⟦<Joined<P, Q> as TwoSided>⟧.sides self.old)) block) block tt }
+        ensures begun { Begun (whole_of (⟦<Joined<P, Q> as TwoSided>⟧.sides self.old)) block (whole_of (⟦<Joined<P, Q> as TwoSided>⟧.sides self.new)) }
+        ensures sides { Called (⟦<Joined<P, Q> as TwoSided>⟧.sides self.old) (begin block) (⟦<Joined<P, Q> as TwoSided>⟧.sides self.new) }
+    {
         let no_such_block = refused(Cause::NoSuchBlock, block);
         let in_the_way = refused(Cause::ErasureInTheWay, block);
-        let (first, second) = self.sides().ok_or(no_such_block)?;
-        match block.checked_sub(first.blocks) {
-            None if second.standing.stands() => Err(in_the_way),
-            None => self.first.begin(block),
-            Some(inner) if inner < second.blocks && first.standing.stands() => Err(in_the_way),
-            Some(inner) => placed(self.second.begin(inner), block),
+        let (first, second) = self.shapes().ok_or(no_such_block)?;
+        let (by_first, by_second) = (first.standing.stands(), second.standing.stands());
+        let aim = Aim::at(block, first.blocks, second.blocks, by_first, by_second);
+        match aim.ok_or(in_the_way)? {
+            Aim::First => self.first.begin(block),
+            Aim::Second(inner) => placed(self.second.begin(inner), block),
         }
     }
 
-    fn hold(&mut self) -> Turn {
-        let Some((first, _)) = self.sides() else {
+    fn hold(&mut self) -> Turn
+        ensures answer { result ≡ can_hold (whole_of (⟦<Joined<P, Q> as TwoSided>⟧.sides self.old)).erasure }
+        ensures held { Held (whole_of (⟦<Joined<P, Q> as TwoSided>⟧.sides self.old)) (whole_of (⟦<Joined<P, Q> as TwoSided>⟧.sides self.new)) }
+        ensures sides { Called (⟦<Joined<P, Q> as TwoSided>⟧.sides self.old) hold (⟦<Joined<P, Q> as TwoSided>⟧.sides self.new) }
+    {
+        let Some((first, _)) = self.shapes() else {
             return Turn::Nothing;
         };
         if first.standing.stands() {
@@ -113,8 +133,12 @@ impl<P: Part + Drop, Q: Part + Drop> Part for Joined<P, Q> {
         }
     }
 
-    fn go_on(&mut self) -> Turn {
-        let Some((first, _)) = self.sides() else {
+    fn go_on(&mut self) -> Turn
+        ensures answer { result ≡ can_go (whole_of (⟦<Joined<P, Q> as TwoSided>⟧.sides self.old)).erasure }
+        ensures gone { whole_of (⟦<Joined<P, Q> as TwoSided>⟧.sides self.new) ≡ gone_on (whole_of (⟦<Joined<P, Q> as TwoSided>⟧.sides self.old)) }
+        ensures sides { Called (⟦<Joined<P, Q> as TwoSided>⟧.sides self.old) go_on (⟦<Joined<P, Q> as TwoSided>⟧.sides self.new) }
+    {
+        let Some((first, _)) = self.shapes() else {
             return Turn::Nothing;
         };
         if first.standing.stands() {
@@ -124,16 +148,19 @@ impl<P: Part + Drop, Q: Part + Drop> Part for Joined<P, Q> {
         }
     }
 
-    fn pass(&mut self, n: u32) -> Result<Progress, PartFault> {
-        let Some((first, _)) = self.sides() else {
-            return self.pass_dead(n);
-        };
+    // Time passes on both sides of a dead one too.
+    fn pass(&mut self, n: u32) -> Result<Progress, PartFault>
+        ensures answer { let m = whole_of (⟦<Joined<P, Q> as TwoSided>⟧.sides self.old) in result ≡ answer (time_no n) n (progress m n m.erasure) }
+        ensures passed { whole_of (⟦<Joined<P, Q> as TwoSided>⟧.sides self.new) ≡ after_pass (whole_of (⟦<Joined<P, Q> as TwoSided>⟧.sides self.old)) n }
+        ensures sides { Called (⟦<Joined<P, Q> as TwoSided>⟧.sides self.old) (pass n) (⟦<Joined<P, Q> as TwoSided>⟧.sides self.new) }
+    {
+        let asked = self.shapes();
         let before = self.first.pass(n);
         let behind = self.second.pass(n);
-        if first.standing.stands() {
-            before
-        } else {
-            behind
+        match asked {
+            None => before.map(|_| Progress::Idle),
+            Some((first, _)) if first.standing.stands() => before,
+            Some(_) => behind,
         }
     }
 }

@@ -1,26 +1,22 @@
 // The two sides of a joined part.
-ghost use Rattle.std.specs.Prelude.{◌≡◌, ◌+◌, not, ◌&&◌, nat_le};
+ghost use Rattle.std.specs.Prelude.{◌≡◌};
 ghost use Rattle.std.specs.Fn.{FnOnceReturnsAtMut};
-ghost use Rattle.part.specs.Calls.{after_pass};
-ghost use Rattle.part.specs.Standings.{stood};
-ghost use Rattle.joined.specs.Pile.{either_stands, Room, placed, elapsed};
+ghost use Rattle.part.specs.Calls.{passed};
+ghost use Rattle.part.specs.Neighbours.{elapsed};
+ghost use Rattle.joined.specs.Pile.{either_stands, shapes_joinable, Room, placed};
 
+use crate::joined::{MOST_BLOCKS, MOST_BYTES};
 use fault::{Cause, PartFault};
-use part::{Part, Shape, Standing};
+use part::{Part, Shape, Standing, catch_up};
 
-// The most bytes that a part has.
-const MOST_BYTES: u64 = 16_777_216;
-
-// The most blocks that a part has.
-const MOST_BLOCKS: u64 = 1024;
-
-// Whether two parts are small enough together, and have one erasure at most.
-pub(crate) fn fit(first: Shape, second: Shape) -> bool
-    ensures { result ≡ (nat_le (first.size + second.size) 16777216 && nat_le (first.blocks + second.blocks) 1024 && not (stood first.standing && stood second.standing)) }
+// Whether two parts are small enough together, and have no erasure.
+pub(crate) fn joinable(first: Shape, second: Shape) -> bool
+    ensures { result ≡ shapes_joinable first second }
 {
-    u64::from(first.size) + u64::from(second.size) <= MOST_BYTES
-        && u64::from(first.blocks) + u64::from(second.blocks) <= MOST_BLOCKS
-        && !(first.standing.stands() && second.standing.stands())
+    u64::from(first.size) + u64::from(second.size) <= u64::from(MOST_BYTES)
+        && u64::from(first.blocks) + u64::from(second.blocks) <= u64::from(MOST_BLOCKS)
+        && !first.standing.stands()
+        && !second.standing.stands()
 }
 
 // The one erasure of both sides, by the numbers that the blocks have in the joined part.
@@ -69,10 +65,10 @@ pub(crate) fn beside<P: Part, Q: Part, T, F: FnOnce(&mut P) -> T>(
 ) -> T
     requires { F.IsAlwaysCallable act }
     ensures acted { FnOnceReturnsAtMut F.FnOnce act busy.old result busy.new }
-    ensures waited { Q.Part.means idle.new ≡ after_pass (Q.Part.means idle.old) (elapsed (P.Part.means busy.old).clock (P.Part.means busy.new).clock) }
+    ensures waited { Q.Part.means idle.new ≡ passed (Q.Part.means idle.old) (elapsed (P.Part.means busy.old).clock (P.Part.means busy.new).clock) }
 {
     let before = busy.clock();
     let answer = act(busy);
-    let _ = idle.pass(busy.clock().wrapping_sub(before));
+    let _ = catch_up(idle, busy, before);
     answer
 }

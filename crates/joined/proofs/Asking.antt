@@ -1,19 +1,18 @@
--- What two parts end to end answer to the questions, and that they are lawful.
-use Rattle.std.specs.Prelude.{◌≡◌, ℕ, ◌+◌, ◌-◌, ◌<◌, ◌≤◌, Bool, true, false, cond, not, ◌&&◌, ltb, ◌++◌, length, Some, None, Option, nat_le, nat_lt, slice_index, slice_index_or, refl}
-use Rattle.std.proofs.Common.{sym, ap, ◌∙◌, arith}
+-- What two parts end to end answer to the questions.
+use Rattle.std.specs.Prelude.{◌≡◌, ℕ, ◌+◌, ◌-◌, ◌<◌, ◌≤◌, Bool, true, false, cond, ltb, ◌++◌, Some, None, Option, nat_lt, slice_index, slice_index_or, refl}
+use Rattle.std.proofs.Common.{leb, sym, ap, subst, ◌∙◌, arith}
 use Rattle.std.proofs.lemmas.List.{length-append, get_or_append_left, get_or-append_right}
-use Rattle.std.proofs.lemmas.Bool.{lt-ltb, leb-true, and_parts, cond_both}
+use Rattle.std.proofs.lemmas.Bool.{lt-ltb, leb-true, and_parts, and_from, and_left, not-true, not_from_false, cond_both}
 use Rattle.std.proofs.lemmas.Bool.Decides.{nat_tests}
 use Rattle.geometry.specs.declared.block.Block.{Block}
 use Rattle.geometry.specs.Blocks.{start_of}
 use Rattle.part.specs.declared.answers.Standing.{Standing}
 use Rattle.part.specs.declared.answers.Shape.{Shape}
 use Rattle.part.specs.Meaning.{Erasure, Meaning, Lawful, ErasureLawful, size, count, standing_of, shape_of}
-use Rattle.part.specs.Calls.{block_at}
-use Rattle.part.specs.Standings.{stood}
+use Rattle.part.specs.Calls.{stands, block_at}
 use Rattle.part.proofs.Standings.{stood_is}
-use Rattle.joined.specs.Pile.{raised, either, pile, no_part, fits, joined, either_stands, later, LaterRoom}
-use Rattle.joined.specs.Rows.{total_both, start_left, start_right, start_most}
+use Rattle.joined.specs.Pile.{most_bytes, most_blocks, small, raised, either, pile, fits, joinable, either_stands, shapes_joinable, Room, later, LaterRoom}
+use Rattle.joined.proofs.Rows.{start_left, start_right, start_most}
 
 -- Which erasure stands.
 standing_both : (k : ℕ) (d e : Option Erasure) → standing_of (either d (raised k e)) ≡ either_stands (standing_of d) (standing_of e) k
@@ -61,61 +60,28 @@ block_right m n lm b h =
     by false = refl
 
 -- The beginning of a block of the second side fits, the first side's size added.
-pub later_room : (m n : Meaning) → Lawful m → Lawful n → (b : ℕ) → LaterRoom (block_at n b) (size m)
-later_room m n lm ln b =
+pub later_room : (m n : Meaning) → Lawful n → fits m n ≡ true → (b : ℕ) → LaterRoom (block_at n b) (size m)
+later_room m n ln f b =
     cond_both (nat_lt b (count n)) (Some (record { start = start_of n.sizes b; size = slice_index n.sizes b })) None
     (λ (o : Option Block). LaterRoom o (size m))
-    (λ _. omega (arith, start_most n.sizes b, ln.whole, ln.small, lm.small))
+    (λ _. omega (arith, start_most n.sizes b, ln.whole, leb-true (size m + size n) most_bytes (and_parts _ _ (and_parts _ _ f).0).0))
     (λ _. tt)
 
--- Two lawful parts end to end are lawful.
-lawful_erasure : (j k : ℕ) (d e : Option Erasure) → ErasureLawful j d → ErasureLawful k e → ErasureLawful (j + k) (either d (raised j e))
-lawful_erasure j k None None h i = tt
-lawful_erasure j k None (Some e) h i = (omega (arith, i.0), i.1)
-lawful_erasure j k (Some d) e h i = (omega (arith, h.0), h.1)
+-- The test over two shapes is the test over the two meanings.
+pub joinable_by : (s t : Shape) (m n : Meaning) → s ≡ shape_of m → t ≡ shape_of n → shapes_joinable s t ≡ joinable m n
+joinable_by s t m n e f =
+    ap (λ (x : Shape). shapes_joinable x t) e
+    ∙ ap (shapes_joinable (shape_of m)) f
+    ∙ rw (stood_is m, stood_is n)
 
-lawful_pile : (m n : Meaning) → Lawful m → Lawful n → fits m n ≡ true → Lawful (pile m n)
-lawful_pile m n lm ln f =
-    let cells : length (m.cells ++ n.cells) ≡ size m + size n = length-append m.cells n.cells in
-    let sizes : length (m.sizes ++ n.sizes) ≡ count m + count n = length-append m.sizes n.sizes in
-    let within : (nat_le (size m + size n) 16777216 ≡ true) × (nat_le (count m + count n) 1024 ≡ true) = and_parts _ _ (and_parts _ _ f).0 in
-    record {
-      whole = omega (arith, total_both m.sizes n.sizes, lm.whole, ln.whole);
-      small = omega (arith, leb-true (size m + size n) 16777216 within.0);
-      few = omega (arith, leb-true (count m + count n) 1024 within.1);
-      guards = omega (arith, length-append m.guards n.guards, lm.guards, ln.guards);
-      wears = omega (arith, length-append m.wears n.wears, lm.wears, ln.wears);
-      erasure = rw sizes (lawful_erasure (count m) (count n) m.erasure n.erasure lm.erasure ln.erasure);
-      clock = lm.clock;
-    }
+-- Two that can be joined fit together.
+pub joinable_fits : (m n : Meaning) → joinable m n ≡ true → fits m n ≡ true
+joinable_fits m n j =
+    let p = and_parts _ _ j in
+    let q = and_parts (small (shape_of m) (shape_of n)) _ p.0 in
+    and_from _ _ q.0 (not_from_false _ (and_left (stands m) (stands n) (not-true _ q.1)))
 
-lawful_none : (c : ℕ) → c < 4294967296 → Lawful (no_part c)
-lawful_none c h = record {
-  whole = refl;
-  small = omega arith;
-  few = omega arith;
-  guards = refl;
-  wears = refl;
-  erasure = tt;
-  clock = h;
-}
-
-pub lawful_joined : (l : Bool) (m n : Meaning) → Lawful m → Lawful n → Lawful (joined l m n)
-lawful_joined l m n lm ln =
-    cond_both (l && fits m n) (pile m n) (no_part m.clock) Lawful
-    (λ t. lawful_pile m n lm ln (and_parts l (fits m n) t).1)
-    (λ _. lawful_none m.clock lm.clock)
-
--- The test over the two shapes is the test over the two meanings.
-pub fits_by : (s t : Shape) (m n : Meaning) (r : Bool) → s ≡ shape_of m → t ≡ shape_of n
-    → r ≡ (nat_le (s.size + t.size) 16777216 && nat_le (s.blocks + t.blocks) 1024 && not (stood s.standing && stood t.standing))
-    → r ≡ fits m n
-fits_by s t m n r e f q =
-    q
-    ∙ ap (λ (x : Shape). nat_le (x.size + t.size) 16777216 && nat_le (x.blocks + t.blocks) 1024 && not (stood x.standing && stood t.standing)) e
-    ∙ ap (λ (x : Shape). nat_le (size m + x.size) 16777216 && nat_le (count m + x.blocks) 1024 && not (stood (standing_of m.erasure) && stood x.standing)) f
-    ∙ rw (stood_is m.erasure, stood_is n.erasure)
-
+-- What two that fit together tell as one.
 pub shape_by : (s t : Shape) (m n : Meaning) (r : Standing) → s ≡ shape_of m → t ≡ shape_of n → r ≡ either_stands s.standing t.standing s.blocks
     → record { size = s.size + t.size; blocks = s.blocks + t.blocks; standing = r } ≡ shape_of (pile m n)
 shape_by s t m n r e f q =
@@ -123,3 +89,29 @@ shape_by s t m n r e f q =
     ∙ ap (λ (x : Shape). record { size = x.size + t.size; blocks = x.blocks + t.blocks; standing = either_stands x.standing t.standing x.blocks }) e
     ∙ ap (λ (x : Shape). record { size = size m + x.size; blocks = count m + x.blocks; standing = either_stands (standing_of m.erasure) x.standing (count m) }) f
     ∙ sym (shape_both m n)
+
+-- Its numbers are numbers of 32 bits.
+pub record Rooms (s t : Shape) : Type 0 where
+  pub size : s.size + t.size < 4294967296
+  pub blocks : s.blocks + t.blocks < 4294967296
+  pub standing : Room t.standing s.blocks
+
+pub rooms : (s t : Shape) (m n : Meaning) → s ≡ shape_of m → t ≡ shape_of n → Lawful n → fits m n ≡ true → Rooms s t
+rooms s t m n e f ln g =
+    subst (λ (x : Shape). Rooms x t) (sym e)
+    (subst (Rooms (shape_of m)) (sym f) (record {
+      size = omega (arith, leb-true (size m + size n) most_bytes within.0);
+      blocks = omega (arith, leb-true (count m + count n) most_blocks within.1);
+      standing = room n.erasure ln.erasure;
+    }))
+  where
+    within : (leb (size m + size n) most_bytes ≡ true) × (leb (count m + count n) most_blocks ≡ true)
+    within = and_parts _ _ (and_parts _ _ g).0
+
+    room : (o : Option Erasure) → ErasureLawful (count n) o → Room (standing_of o) (count m)
+    room None h = tt
+    room (Some x) h = by x.block x.left x.running h.0
+      where
+        by : (b t : ℕ) (r : Bool) → b < count n → Room (standing_of (Some (record { block = b; left = t; running = r }))) (count m)
+        by b t true l = omega (arith, leb-true (count m + count n) most_blocks within.1)
+        by b t false l = omega (arith, leb-true (count m + count n) most_blocks within.1)
