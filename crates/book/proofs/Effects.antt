@@ -5,8 +5,8 @@ use Rattle.std.proofs.lemmas.Bool.{and_from, eq-eqb, ne_eqb, lt-leb, cases_lt, c
 use Rattle.fault.specs.declared.cause.Cause.{Cause}
 use Rattle.geometry.proofs.Wiping.{wiped_at}
 use Rattle.fault.specs.declared.faults.PartFault.{PartFault}
-use Rattle.part.specs.Meaning.{Erasure, Meaning, size, cell, worn}
-use Rattle.part.specs.Calls.{hides, peek_no, erased}
+use Rattle.part.specs.Meaning.{Meaning, size, cell, worn}
+use Rattle.part.specs.Calls.{hides, bars, peek_no, erased}
 use Rattle.book.specs.declared.page.Page.{Page}
 use Rattle.book.specs.Pages.{page_at, line_at, used, is_line, shown, page_of, blank, readable_page, readable_pages, readable_book}
 use Rattle.book.specs.Reading.{unless, fault_at, first, peeks_no, reading}
@@ -26,11 +26,11 @@ use Rattle.book.proofs.Lines.{Added, added, some_line}
 use Rattle.book.proofs.Changing.{head_leaves, head_rest, BookMade, book_made, some_steps}
 
 -- A page outside the erasure's reach is read as it stands.
-module _ (m : Meaning) (from k b : ℕ) (lies : Lies m from k b) (h : hides m.erasure b ≡ false) where
+module _ (m : Meaning) (from k b : ℕ) (lies : Lies m from k b) (h : hides m b ≡ false) where
   peek_free : (a : ℕ) → from ≤ a → a < from + k → peek_no m a ≡ None
   peek_free a l g =
       cond-false _ _ _ (lt-leb (size m) a (omega (arith, lies.inside)))
-      ∙ cond-false _ _ _ (ap (hides m.erasure) (lies.at_block a l g) ∙ h)
+      ∙ cond-false _ _ _ (ap (hides m) (lies.at_block a l g) ∙ h)
 
   peeks_free : (at i : ℕ) → from ≤ at → at + i ≤ from + k → peeks_no m at i ≡ None
   unfolding peeks_no
@@ -49,7 +49,7 @@ module _ (m : Meaning) (from k b : ℕ) (lies : Lies m from k b) (h : hides m.er
       ap₂ (λ (c : Option Cause) (o : Option PartFault). unless (first (fault_at c at) o) (page_of m.cells at))
       (peek_free at l (omega arith)) line
 
-pub reads : (m : Meaning) (b : Pair) → Seated m b → hides m.erasure b.current.block ≡ false → (p : ℕ) → p ≤ b.positions
+pub reads : (m : Meaning) (b : Pair) → Seated m b → hides m b.current.block ≡ false → (p : ℕ) → p ≤ b.positions
     → reading m (page_at b.current.start p) ≡ Ok (page_of m.cells (page_at b.current.start p))
 reads m b s h p l =
     page_free m b.current.start (book_size b.positions) b.current.block (current_lies m b s) h
@@ -59,11 +59,11 @@ reads m b s h p l =
 worn_refused : (m : Meaning) (r : Result (Unit {0}) PartFault) (n : Meaning) → WornOut m r n → WornRefused m r n
 worn_refused m r n w = record { fault = w.0; time = w.1; refused = w.2; is = w.3 }
 
-current_ready : (m : Meaning) (b : Pair) → Seated m b → m.erasure ≡ None
+current_ready : (m : Meaning) (b : Pair) → Seated m b → bars m b.current.block ≡ false
     → Ready m b.current.start (book_size b.positions) b.current.block
 current_ready m b s e = record { lies = current_lies m b s; free = e; open_block = s.current_open }
 
-spare_ready : (m : Meaning) (b : Pair) → Seated m b → m.erasure ≡ None
+spare_ready : (m : Meaning) (b : Pair) → Seated m b → bars m b.spare.block ≡ false
     → Ready m b.spare.start (book_size b.positions) b.spare.block
 spare_ready m b s e = record { lies = spare_lies m b s; free = e; open_block = s.spare_open }
 
@@ -77,7 +77,7 @@ current_line m b p new s high t u f =
     added b.current.start (book_size b.positions) m.cells (page_at b.current.start p) _ new refl t u f
     (omega arith) (omega arith) (omega (arith, (current_lies m b s).inside))
 
-pub line_done : (m : Meaning) (b : Pair) (p : ℕ) (new : Option ℕ) → Seated m b → m.erasure ≡ None → 1 ≤ p → p ≤ b.positions
+pub line_done : (m : Meaning) (b : Pair) (p : ℕ) (new : Option ℕ) → Seated m b → bars m b.current.block ≡ false → 1 ≤ p → p ≤ b.positions
     → readable_page m.cells (page_at b.current.start p) ≡ true
     → used (get_or m.cells (page_at b.current.start p) 0) < 7 → StopsFit new → worn m b.current.block ≡ false
     → (r : Result (Unit {0}) PartFault) (n : Meaning)
@@ -96,7 +96,7 @@ line_done m b p new s e low high t u f w r n x =
       keeps = steps.makes.keeps;
     }
 
-pub line_worn : (m : Meaning) (b : Pair) (p : ℕ) (new : Option ℕ) → Seated m b → m.erasure ≡ None → 1 ≤ p → p ≤ b.positions
+pub line_worn : (m : Meaning) (b : Pair) (p : ℕ) (new : Option ℕ) → Seated m b → bars m b.current.block ≡ false → 1 ≤ p → p ≤ b.positions
     → readable_page m.cells (page_at b.current.start p) ≡ true
     → used (get_or m.cells (page_at b.current.start p) 0) < 7 → StopsFit new → worn m b.current.block ≡ true
     → (r : Result (Unit {0}) PartFault) (n : Meaning)
@@ -106,7 +106,7 @@ line_worn m b p new s e low high t u f w r n x =
     worn_refused m r n (worn_out m b.current.start (book_size b.positions) b.current.block (current_ready m b s e) w
     (current_line m b p new s high t u f).makes.lays refl (some_line _ _ new) r n x)
 
-pub line_cause : (m : Meaning) (b : Pair) (p : ℕ) (new : Option ℕ) → Seated m b → m.erasure ≡ None → p ≤ b.positions
+pub line_cause : (m : Meaning) (b : Pair) (p : ℕ) (new : Option ℕ) → Seated m b → bars m b.current.block ≡ false → p ≤ b.positions
     → readable_page m.cells (page_at b.current.start p) ≡ true
     → used (get_or m.cells (page_at b.current.start p) 0) < 7 → StopsFit new → worn m b.current.block ≡ true
     → (r : Result (Unit {0}) PartFault) (n : Meaning)
@@ -121,10 +121,10 @@ line_cause m b p new s e high t u f w r n x =
 abbrev to_hold : Meaning → Pair → ℕ → Option ℕ → ℕ → Option ℕ
 to_hold m b p new q = cond (eqb q p) new (shown m.cells (page_at b.current.start q))
 
-will_be : (m : Meaning) (b : Pair) (p : ℕ) (new : Option ℕ) → Seated m b → m.erasure ≡ None
+will_be : (m : Meaning) (b : Pair) (p : ℕ) (new : Option ℕ) → Seated m b → hides m b.current.block ≡ false
     → (q : ℕ) → 1 ≤ q → q ≤ b.positions → will_hold m b.current.start p new q ≡ Ok (to_hold m b p new q)
-will_be m b p new s e q l h =
-    let i = reads m b s (ap (λ (o : Option Erasure). hides o b.current.block) e) q h in
+will_be m b p new s v q l h =
+    let i = reads m b s v q h in
     ap (λ (r : Result Page PartFault). cond (eqb q p) (Ok new) (stops_of r)) i ∙ by (eqb q p)
   where
     by : (t : Bool) → ◌≡◌ {A = Result (Option ℕ) PartFault} (cond t (Ok new) (Ok (shown m.cells (page_at b.current.start q))))
@@ -133,25 +133,25 @@ will_be m b p new s e q l h =
     by false = refl
 
 -- the steps of the change
-spare_book : (m : Meaning) (b : Pair) (p : ℕ) (new : Option ℕ) → Seated m b → m.erasure ≡ None
+spare_book : (m : Meaning) (b : Pair) (p : ℕ) (new : Option ℕ) → Seated m b → hides m b.current.block ≡ false
     → readable_pages m.cells b.current.start b.positions ≡ true
     → blank m.cells b.spare.start (book_size b.positions) ≡ true → StopsFit new
     → BookMade m.cells b.spare.start (will_hold m b.current.start p new) (to_hold m b p new) b.positions
-spare_book m b p new s e t k f =
+spare_book m b p new s v t k f =
     book_made m.cells b.spare.start (will_hold m b.current.start p new) (to_hold m b p new) b.positions
-    (spare_lies m b s).inside k (will_be m b p new s e)
+    (spare_lies m b s).inside k (will_be m b p new s v)
     (λ q l h. cond_both (eqb q p) new _ StopsFit (λ _. f)
     (λ _. shown_fits m.cells (page_at b.current.start q) (pages_at m.cells b.current.start b.positions t q l h)))
 
-pub copy_done : (m : Meaning) (b : Pair) (p : ℕ) (new : Option ℕ) → Seated m b → m.erasure ≡ None
+pub copy_done : (m : Meaning) (b : Pair) (p : ℕ) (new : Option ℕ) → Seated m b → hides m b.current.block ≡ false → bars m b.spare.block ≡ false
     → readable_pages m.cells b.current.start b.positions ≡ true
     → blank m.cells b.spare.start (book_size b.positions) ≡ true
     → StopsFit new → worn m b.spare.block ≡ false
     → (r : Result (Unit {0}) PartFault) (n : Meaning)
     → Ran m (book_copied (will_hold m b.current.start p new) b.spare.start b.positions) r n
     → CopyDone m b p new r n
-copy_done m b p new s e t k f w r n x =
-    let steps = spare_book m b p new s e t k f in
+copy_done m b p new s v e t k f w r n x =
+    let steps = spare_book m b p new s v t k f in
     let g = granted m b.spare.start (book_size b.positions) b.spare.block (spare_ready m b s e) w
     steps.makes.lays refl (some_steps _ _ b.positions) r n x in
     record {
@@ -164,26 +164,26 @@ copy_done m b p new s e t k f w r n x =
       keeps = steps.makes.keeps;
     }
 
-pub copy_worn : (m : Meaning) (b : Pair) (p : ℕ) (new : Option ℕ) → Seated m b → m.erasure ≡ None
+pub copy_worn : (m : Meaning) (b : Pair) (p : ℕ) (new : Option ℕ) → Seated m b → hides m b.current.block ≡ false → bars m b.spare.block ≡ false
     → readable_pages m.cells b.current.start b.positions ≡ true
     → blank m.cells b.spare.start (book_size b.positions) ≡ true
     → StopsFit new → worn m b.spare.block ≡ true
     → (r : Result (Unit {0}) PartFault) (n : Meaning)
     → Ran m (book_copied (will_hold m b.current.start p new) b.spare.start b.positions) r n
     → WornRefused m r n
-copy_worn m b p new s e t k f w r n x =
+copy_worn m b p new s v e t k f w r n x =
     worn_refused m r n (worn_out m b.spare.start (book_size b.positions) b.spare.block (spare_ready m b s e) w
-    (spare_book m b p new s e t k f).makes.lays refl (some_steps _ _ b.positions) r n x)
+    (spare_book m b p new s v t k f).makes.lays refl (some_steps _ _ b.positions) r n x)
 
-pub copy_cause : (m : Meaning) (b : Pair) (p : ℕ) (new : Option ℕ) → Seated m b → m.erasure ≡ None
+pub copy_cause : (m : Meaning) (b : Pair) (p : ℕ) (new : Option ℕ) → Seated m b → hides m b.current.block ≡ false → bars m b.spare.block ≡ false
     → readable_pages m.cells b.current.start b.positions ≡ true
     → blank m.cells b.spare.start (book_size b.positions) ≡ true
     → StopsFit new → worn m b.spare.block ≡ true
     → (r : Result (Unit {0}) PartFault) (n : Meaning)
     → Ran m (book_copied (will_hold m b.current.start p new) b.spare.start b.positions) r n → AsWorn r
-copy_cause m b p new s e t k f w r n x =
+copy_cause m b p new s v e t k f w r n x =
     worn_cause m b.spare.start (book_size b.positions) b.spare.block (spare_ready m b s e) w
-    (spare_book m b p new s e t k f).makes.lays refl (some_steps _ _ b.positions) r n x
+    (spare_book m b p new s v t k f).makes.lays refl (some_steps _ _ b.positions) r n x
 
 -- A blank book whose head is burnt is readable, and empty at each position.
 pub record FreshBook (cells : List ℕ) (start n : ℕ) : Type 0 where

@@ -1,30 +1,30 @@
 -- Where the books lie: each address of a book is inside the part and in the book's block.
-use Rattle.std.proofs.Common.{◌≡◌, ℕ, zero, suc, ◌+◌, ◌<◌, ◌≤◌, List, [], ◌∷◌, length, get_or, sym, ◌∙◌, inl, inr, arith, Bool, Option}
+use Rattle.std.proofs.Common.{◌≡◌, ℕ, zero, suc, ◌+◌, ◌<◌, ◌≤◌, List, [], ◌∷◌, length, get_or, sym, ap, ◌∙◌, inl, inr, arith, Bool, false}
 use Rattle.std.proofs.lemmas.Bool.{cases_lt}
 use Rattle.geometry.specs.Blocks.{total, start_of}
 use Rattle.geometry.proofs.Placing.{block_is}
-use Rattle.part.specs.Meaning.{Erasure, Meaning, size, count, block}
+use Rattle.part.specs.Meaning.{Meaning, size, count, block}
 use Rattle.book.specs.Pairs.{Pair, book_size, changed}
 use Rattle.book.specs.Finding.{begins, width}
 use Rattle.book.proofs.Seats.{Seated, SameOutside, SameInside}
 
--- The two books stay where they are as long as the blocks, the guards and the size do.
-pub seated_in : (cells : List ℕ) (wears : List Bool) (e : Option Erasure) (clock : ℕ) (spoilt : Bool) (m : Meaning) (b : Pair)
-    → length cells ≡ length m.cells → Seated m b
-    → Seated (record { cells = cells; sizes = m.sizes; guards = m.guards; wears = wears; erasure = e; clock = clock })
-    (record { current = b.current; spare = b.spare; positions = b.positions; spoilt = spoilt })
-seated_in cells wears e clock spoilt m b l s = record {
-  whole = s.whole ∙ sym l;
-  current_in = s.current_in;
-  spare_in = s.spare_in;
-  current_start = s.current_start;
-  spare_start = s.spare_start;
-  current_width = s.current_width;
-  spare_width = s.spare_width;
-  distinct = s.distinct;
-  current_open = s.current_open;
-  spare_open = s.spare_open;
-}
+-- The two books stay where they are as long as the blocks, the guards and the size do, spoilt or not.
+pub seated_on : (m n : Meaning) (b : Pair) (spoilt : Bool) → n.sizes ≡ m.sizes → n.guards ≡ m.guards → size n ≡ size m → Seated m b
+    → Seated n (record b { spoilt = spoilt })
+seated_on m n b spoilt e g l s =
+    let count_same : count n ≡ count m = ap length e in
+    record {
+      whole = ap total e ∙ s.whole ∙ sym l;
+      current_in = omega (arith, s.current_in);
+      spare_in = omega (arith, s.spare_in);
+      current_start = s.current_start ∙ sym (ap (λ (w : List ℕ). start_of w b.current.block) e);
+      spare_start = s.spare_start ∙ sym (ap (λ (w : List ℕ). start_of w b.spare.block) e);
+      current_width = ap (λ (w : List ℕ). get_or w b.current.block 0) e ∙ s.current_width;
+      spare_width = ap (λ (w : List ℕ). get_or w b.spare.block 0) e ∙ s.spare_width;
+      distinct = s.distinct;
+      current_open = ap (λ (w : List Bool). get_or w b.current.block false) g ∙ s.current_open;
+      spare_open = ap (λ (w : List Bool). get_or w b.spare.block false) g ∙ s.spare_open;
+    }
 
 -- the same books the other way round
 pub seated_changed : (m : Meaning) (b : Pair) → Seated m b → Seated m (changed b)

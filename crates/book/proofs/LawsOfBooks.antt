@@ -65,19 +65,19 @@ all_laid m n steps (burnt {k = k} {a = a} {byte = byte} {steps = rest} e t r) =
 
 pub write_laws : WriteLaws
 write_laws = record {
-  done = λ m n b p new r f t w x. line_done m b p new f.seated f.still f.low f.high f.readable f.free t w r n x;
+  done = λ m n b p new r f t w x. line_done m b p new f.seated f.unbarred f.low f.high f.readable f.free t w r n x;
   worn_out = λ m n b p new r f t w x. (
-    line_cause m b p new f.seated f.still f.high f.readable f.free t w r n x,
-    line_worn m b p new f.seated f.still f.low f.high f.readable f.free t w r n x,
+    line_cause m b p new f.seated f.unbarred f.high f.readable f.free t w r n x,
+    line_worn m b p new f.seated f.unbarred f.low f.high f.readable f.free t w r n x,
   );
   exact = λ m n steps x. all_laid m n steps x;
 }
 
 pub copy_laws : CopyLaws
 copy_laws = record {
-  done = λ m n b p new r f t w x. copy_done m b p new f.seated f.still f.readable f.blank_spare t w r n x;
+  done = λ m n b p new r f t w x. copy_done m b p new f.seated f.seen f.unbarred f.readable f.blank_spare t w r n x;
   worn_out = λ m n b p new r f t w x. (
-    copy_cause m b p new f.seated f.still f.readable f.blank_spare t w r n x,
-    copy_worn m b p new f.seated f.still f.readable f.blank_spare t w r n x,
+    copy_cause m b p new f.seated f.seen f.unbarred f.readable f.blank_spare t w r n x,
+    copy_worn m b p new f.seated f.seen f.unbarred f.readable f.blank_spare t w r n x,
   );
 }

@@ -6,8 +6,9 @@ use Rattle.fault.specs.declared.cause.Cause.{Cause}
 use Rattle.fault.specs.declared.cause.Cause.TheVariants.{Worn}
 use Rattle.fault.specs.declared.faults.PartFault.{PartFault}
 use Rattle.part.specs.Meaning.{Meaning, size, cell, block, guarded, worn, with_cells, ticked}
-use Rattle.part.specs.Calls.{needs_erase, stands, burn_no, Took, BurntBy}
+use Rattle.part.specs.Calls.{needs_erase, bars, burn_no, Took, BurntBy}
 use Rattle.part.proofs.Clocks.{ticked_more}
+use Rattle.part.proofs.Standings.{bars_cells, bars_ticked}
 use Rattle.book.specs.Burning.{Step, burn, Ran, done, burnt, refused}
 use Rattle.book.specs.Laws.{AsWorn}
 use Rattle.book.proofs.Seats.{Rewritten}
@@ -23,10 +24,10 @@ pub lays_then : {from k : ℕ} {xs ys zs : List ℕ} {s t : List Step} → Lays 
 lays_then (nothing _) r = r
 lays_then (one_more l h c q) r = one_more l h c (lays_then q r)
 
--- A part on which they can be made: the stretch lies in a block that is not guarded, and no erasure stands.
+-- A part on which they can be made: the stretch lies in a block that is not guarded, and in which no erasure bars a burn.
 pub record Ready (m : Meaning) (from k b : ℕ) : Type 0 where
   pub lies : Lies m from k b
-  pub free : m.erasure ≡ None
+  pub free : bars m b ≡ false
   pub open_block : guarded m b ≡ false
 
 -- after some burns it still is
@@ -34,7 +35,7 @@ still_ready : (m : Meaning) (from k b : ℕ) (cells : List ℕ) (time : ℕ) →
     → Ready m from k b → Ready (ticked (with_cells m cells) time) from k b
 still_ready m from k b cells time l r = record {
   lies = record { inside = omega (arith, r.lies.inside); at_block = r.lies.at_block };
-  free = r.free;
+  free = bars_ticked (with_cells m cells) time b ∙ bars_cells m cells b ∙ r.free;
   open_block = r.open_block;
 }
 
@@ -44,7 +45,7 @@ burn_only : (m : Meaning) (from k b a byte : ℕ) → Ready m from k b → from 
 burn_only m from k b a byte r l h c =
     let at_block : block m a ≡ b = r.lies.at_block a l h in
     cond-false _ _ _ (lt-leb (size m) a (omega (arith, r.lies.inside)))
-    ∙ cond-false _ _ _ (ap stands r.free)
+    ∙ cond-false _ _ _ (ap (bars m) at_block ∙ r.free)
     ∙ cond-false _ _ _ (ap (guarded m) at_block ∙ r.open_block)
     ∙ cond-false _ _ _ c
     ∙ ap (λ (x : ℕ). cond (worn m x) (Some Worn) None) at_block

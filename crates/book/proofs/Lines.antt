@@ -1,9 +1,9 @@
 -- One line more of a page, as steps that a part grants.
-use Rattle.std.proofs.Common.{◌≡◌, ℕ, zero, suc, ◌+◌, ◌-◌, ◌*◌, ◌^◌, ◌<◌, ◌≤◌, true, false, ◌⊎◌, List, [], ◌∷◌, length, get_or, set, Some, None, Option, sym, refl, ap, ◌∙◌, subst, inl, inr, arith}
+use Rattle.std.proofs.Common.{◌≡◌, ℕ, zero, suc, ◌+◌, ◌-◌, ◌*◌, ◌^◌, ◌<◌, ◌≤◌, true, false, ◌⊎◌, List, [], ◌∷◌, ◌++◌, length, get_or, set, Some, None, Option, sym, refl, ap, ◌∙◌, subst, inl, inr, arith}
 use Rattle.std.proofs.lemmas.List.{length-set, get_or-set_same, get_or-set_other}
 use Rattle.std.proofs.lemmas.Bool.{cases_lt, cond-true, or_right}
 use Rattle.part.specs.Calls.{needs_erase}
-use Rattle.book.specs.Pages.{line_at, used, marked, byte_of, spelled, registration, shown, blank, fit_line, readable_page}
+use Rattle.book.specs.Pages.{line_at, used, next_line, marked, byte_of, spelled, registration, shown, blank, fit_line, readable_page}
 use Rattle.book.specs.Burning.{Step, burn, bytes_burnt, line_burnt, line_added}
 use Rattle.book.proofs.Seats.{SameOutside, SameInside, StopsFit}
 use Rattle.book.proofs.Stretches.{blank_same, blank_at, blank_part, spelled_same, spelled_bytes, spelled_blank}
@@ -103,6 +103,7 @@ pub added : (from k : ℕ) (xs : List ℕ) (at tally : ℕ) (new : Option ℕ) �
 unfolding line_added
 added from k xs at tally new e t u f l h g =
     let o : ℕ = used tally in
+    let next : o + 1 ≡ next_line tally = omega arith in
     let facts : Readable xs at o = subst (λ (v : ℕ). Readable xs at (used v)) e (readable_facts xs at t) in
     let m = marking o u in
     let full : tally ≡ 256 - 2 ^ o = sym e ∙ facts.tally in
@@ -127,7 +128,8 @@ added from k xs at tally new e t u f l h g =
     record {
       makes = record {
         cells = zs;
-        lays = lays_then line.makes.lays (one_burn from k ys at (marked tally) (omega arith) (omega arith) clears);
+        lays = subst (λ (v : ℕ). Lays from k xs (line_burnt (line_at at v) new ++ (burn at (marked tally) ∷ [])) zs) next
+            (lays_then line.makes.lays (one_burn from k ys at (marked tally) (omega arith) (omega arith) clears));
         long = length-set ys at (marked tally) ∙ long;
         keeps = same_then xs ys zs at 64 (same_wider xs ys at 64 (line_at at (o + 1)) 8 (omega arith) (omega arith) line.makes.keeps)
             (same_wider ys zs at 64 at 1 (omega arith) (omega arith) tallied);
@@ -147,4 +149,4 @@ added from k xs at tally new e t u f l h g =
 
 pub some_line : (at tally : ℕ) (new : Option ℕ) → line_added at tally new ≡ [] → ⊥
 unfolding line_added
-some_line at tally new e = has_last (line_burnt (line_at at (used tally + 1)) new) (burn at (marked tally)) e
+some_line at tally new e = has_last (line_burnt (line_at at (next_line tally)) new) (burn at (marked tally)) e

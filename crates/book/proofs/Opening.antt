@@ -1,18 +1,18 @@
 -- What two books are once they were opened, and that they are opened again as they are.
-use Rattle.std.proofs.Common.{◌≡◌, ℕ, ◌-◌, ◌/◌, ◌≤◌, Bool, true, false, cond, not, ◌&&◌, ◌⊎◌, List, [], get_or, set, Some, None, Ok, Option, Result, sym, refl, ap, ◌∙◌, subst, inl, inr, arith}
+use Rattle.std.proofs.Common.{◌≡◌, ℕ, ◌-◌, ◌/◌, ◌≤◌, Bool, true, false, cond, not, ◌&&◌, ◌⊎◌, List, get_or, set, is_some, Some, None, Ok, Option, Result, sym, refl, ap, ◌∙◌, subst, inl, inr, arith}
 use Rattle.std.proofs.lemmas.List.{length-set}
 use Rattle.std.proofs.lemmas.Bool.{cases_Bool, both_ways, and_parts, eqb-true, eq-eqb, ne_eqb, cond-true, cond-false}
 use Rattle.fault.specs.declared.cause.Cause.{Cause}
 use Rattle.fault.specs.declared.faults.PartFault.{PartFault}
 use Rattle.part.specs.Meaning.{Erasure, Meaning, worn, with_cells, with_erasure, Lawful}
-use Rattle.part.specs.Calls.{answer, stands, burn_no, BurntBy, Took, begin_no, BegunBy, Started}
+use Rattle.part.specs.Calls.{answer, burn_no, BurntBy, Took, begin_no, BegunBy, Started}
 use Rattle.book.specs.declared.finding.Finding.{Finding}
 use Rattle.book.specs.declared.finding.Finding.TheVariants.{Fresh, First, Second, Neither}
 use Rattle.book.specs.Pages.{page_at, shown, blank, readable_book}
 use Rattle.book.specs.Pairs.{Pair, book_size, changed}
 use Rattle.book.specs.Finding.{begins, width, positions_of, books_no, in_use, found, pair, Cleared, Taken, Settled, OpenedIf, Opened}
 use Rattle.book.proofs.Seats.{Seated}
-use Rattle.book.proofs.Ground.{seated_in, seated_changed}
+use Rattle.book.proofs.Ground.{seated_on, seated_changed}
 use Rattle.book.proofs.Stretches.{blank_at}
 use Rattle.book.proofs.Lines.{same_wider, same_set}
 use Rattle.book.proofs.Effects.{blank_same, books_apart_back, fresh_book}
@@ -55,7 +55,7 @@ answered : {X : Type 0} (o : Option Cause) (place : ℕ) (x y : X) → Ok x ≡ 
 answered None place x y e = (refl, ok_is x y e)
 answered (Some cause) place x y e = let z : ◌≡◌ {A = ℕ} 0 1 = cc in absurd (omega arith)
 
-none_stands : (o : Option Erasure) → stands o ≡ false → o ≡ None
+none_stands : (o : Option Erasure) → is_some o ≡ false → o ≡ None
 none_stands None e = refl
 none_stands (Some x) e = let z : ◌≡◌ {A = Bool} true false = e in absurd (both_ways true z refl)
 
@@ -126,7 +126,7 @@ module _ (m : Meaning) (a b : ℕ) (l : Lawful m) (free : books_no m a b ≡ Non
       let cells : List ℕ = set m.cells start 0 in
       subst (λ (v : Pair). OpenBooks m a b v n) (sym e.1) (subst (λ (v : Meaning). OpenBooks m a b (pair m a b) v) (sym took.is) (record {
         free = free;
-        seated = seated_in cells m.wears m.erasure _ false m (pair m a b) (length-set m.cells start 0) seats;
+        seated = seated_on m _ (pair m a b) false refl refl (length-set m.cells start 0) seats;
         blocks = inl (refl, refl);
         sizes = refl;
         guards = refl;
@@ -147,7 +147,7 @@ module _ (m : Meaning) (a b : ℕ) (l : Lawful m) (free : books_no m a b ≡ Non
     with_rest : (e : Option Erasure) → Rest (with_erasure m e) p → OpenBooks m a b p (with_erasure m e)
     with_rest e r = record {
       free = free;
-      seated = seated_in m.cells m.wears e m.clock p.spoilt m p refl seats;
+      seated = seated_on m _ p p.spoilt refl refl refl seats;
       blocks = in_blocks;
       sizes = refl;
       guards = refl;
@@ -198,16 +198,12 @@ opened_books m a b c n l x = by (books_no m a b) refl x
     by (Some f) d y = let z : ◌≡◌ {A = ℕ} 0 1 = cc in absurd (omega arith)
 
 -- The same test for a part that has the same blocks and guards, and no erasure either.
-with_blocks : List ℕ → List Bool → Option Erasure → Meaning
-with_blocks sizes guards e = record { cells = []; sizes = sizes; guards = guards; wears = []; erasure = e; clock = 0 }
-
 still_free : (o m : Meaning) (a b : ℕ) → books_no o a b ≡ None → m.sizes ≡ o.sizes → m.guards ≡ o.guards → m.erasure ≡ None → books_no m a b ≡ None
-unfolding with_blocks
 still_free o m a b f s g e =
     let idle : o.erasure ≡ None = none_stands o.erasure (seats_free o a b f).still in
-    ap (λ (l : List ℕ). books_no (with_blocks l m.guards m.erasure) a b) s
-    ∙ ap (λ (l : List Bool). books_no (with_blocks o.sizes l m.erasure) a b) g
-    ∙ ap (λ (x : Option Erasure). books_no (with_blocks o.sizes o.guards x) a b) (e ∙ sym idle)
+    ap (λ (l : List ℕ). books_no (record m { sizes = l }) a b) s
+    ∙ ap (λ (l : List Bool). books_no (record m { sizes = o.sizes; guards = l }) a b) g
+    ∙ ap (λ (x : Option Erasure). books_no (record m { sizes = o.sizes; guards = o.guards; erasure = x }) a b) (e ∙ sym idle)
     ∙ f
 
 -- two pairs of books with the same fields

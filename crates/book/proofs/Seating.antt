@@ -4,10 +4,9 @@ use Rattle.std.proofs.lemmas.Bool.{eq-eqb, ne_eqb, ltb-true, lt-leb, leb-true, l
 use Rattle.geometry.specs.declared.block.Block.{Block}
 use Rattle.geometry.specs.Blocks.{total, start_of}
 use Rattle.fault.specs.declared.faults.PartFault.{PartFault}
-use Rattle.part.specs.declared.answers.Standing.TheVariants.{Running, Suspended}
-use Rattle.part.specs.Meaning.{Erasure, Meaning, size, count, guarded, standing_of, Lawful}
-use Rattle.part.specs.Standings.{stood}
+use Rattle.part.specs.Meaning.{Meaning, size, count, guarded, Lawful}
 use Rattle.part.specs.Calls.{stands, block_at}
+use Rattle.book.specs.Pages.{Addressable}
 use Rattle.book.specs.Pairs.{Pair, book_size, apart}
 use Rattle.book.specs.Reading.{unless}
 use Rattle.book.specs.declared.finding.Finding.{Finding}
@@ -83,26 +82,19 @@ clear m a b f =
 pub inside : (m : Meaning) (b w : ℕ) → Lawful m → b < count m → width m b ≡ w → begins m b + w ≤ size m
 inside m b w l h e = omega (arith, ends m.sizes b h, l.whole)
 
-pub low_start : (m : Meaning) (b : ℕ) → Lawful m → b < count m → begins m b ≤ 16777216
-low_start m b l h = omega (arith, ends m.sizes b h, l.whole, l.small)
+-- and so inside the addresses of 32 bits
+pub in_reach : (m : Meaning) (b w : ℕ) → Lawful m → b < count m → width m b ≡ w → Addressable (begins m b) w
+in_reach m b w l h e = omega (arith, inside m b w l h e, l.small)
 
 -- No cause to refuse.
 pub no_cause : (m : Meaning) (a b : ℕ) → a < count m → b < count m
     → (eqb a b || not (eqb (width m a) (width m b)) || not (fit_size (width m a))) ≡ false
-    → guarded m a ≡ false → guarded m b ≡ false → stands m.erasure ≡ false → books_no m a b ≡ None
+    → guarded m a ≡ false → guarded m b ≡ false → stands m ≡ false → books_no m a b ≡ None
 no_cause m a b l k t ga gb s =
     cond-false (leb (count m) a) _ _ (lt-leb (count m) a l)
     ∙ cond-false (leb (count m) b) _ _ (lt-leb (count m) b k)
     ∙ cond-false (eqb a b || not (eqb (width m a) (width m b)) || not (fit_size (width m a))) _ _ t
-    ∙ cond-false (guarded m a) _ _ ga ∙ cond-false (guarded m b) _ _ gb ∙ cond-false (stands m.erasure) _ _ s
-
-pub stood_stands : (o : Option Erasure) → stood (standing_of o) ≡ stands o
-stood_stands None = refl
-stood_stands (Some e) = by e.running
-  where
-    by : (t : Bool) → stood (cond t (Running e.block) (Suspended e.block)) ≡ true
-    by true = refl
-    by false = refl
+    ∙ cond-false (guarded m a) _ _ ga ∙ cond-false (guarded m b) _ _ gb ∙ cond-false (stands m) _ _ s
 
 -- The test as it is made on the blocks that were asked for.
 module _ (m : Meaning) (a b : ℕ) (x y : Block) (t : Bool) (p : block_at m a ≡ Some x) (q : block_at m b ≡ Some y)
@@ -126,7 +118,7 @@ module _ (m : Meaning) (a b : ℕ) (x y : Block) (t : Bool) (p : block_at m a �
       ap (λ (s : ℕ). apart s y.start (x.size / 64 - 1)) i.1 ∙ ap (λ (s : ℕ). apart (begins m a) s (x.size / 64 - 1)) j.1
       ∙ ap (λ (w : ℕ). apart (begins m a) (begins m b) (w / 64 - 1)) i.2 ∙ clear m a b fits_as_books
 
-  pub seats_taken : guarded m a ≡ false → guarded m b ≡ false → stands m.erasure ≡ false
+  pub seats_taken : guarded m a ≡ false → guarded m b ≡ false → stands m ≡ false
       → Ok (record { current = record { block = a; start = x.start }; spare = record { block = b; start = y.start }; positions = x.size / 64 - 1; spoilt = false })
       ≡ unless (books_no m a b) (pair m a b)
   seats_taken ga gb s =
@@ -142,7 +134,7 @@ pub record SeatsFree (m : Meaning) (a b : ℕ) : Type 0 where
   pub fits : Fit m a b
   pub first_open : guarded m a ≡ false
   pub second_open : guarded m b ≡ false
-  pub still : stands m.erasure ≡ false
+  pub still : stands m ≡ false
 
 passes : (t : Bool) (f : PartFault) (rest : Option PartFault) → cond t (Some f) rest ≡ None → (t ≡ false) × (rest ≡ None)
 passes true f rest e = let z : ◌≡◌ {A = ℕ} 0 1 = cc in absurd (omega arith)
@@ -155,7 +147,7 @@ seats_free m a b e =
     let r = passes (eqb a b || not (eqb (width m a) (width m b)) || not (fit_size (width m a))) _ _ q.1 in
     let s = passes (guarded m a) _ _ r.1 in
     let t = passes (guarded m b) _ _ s.1 in
-    let u = passes (stands m.erasure) _ _ t.1 in
+    let u = passes (stands m) _ _ t.1 in
     record {
       fits = fit m a b (leb-false (count m) a p.0) (leb-false (count m) b q.0) r.0;
       first_open = s.0;
@@ -165,7 +157,7 @@ seats_free m a b e =
 
 -- Both books lie inside the part.
 pub both_inside : (m : Meaning) (a b : ℕ) (c : Pair) → Lawful m → books_no m a b ≡ None → c ≡ pair m a b
-    → (stands m.erasure ≡ false) × (c.current.start + book_size c.positions ≤ size m) × (c.spare.start + book_size c.positions ≤ size m)
+    → (stands m ≡ false) × (c.current.start + book_size c.positions ≤ size m) × (c.spare.start + book_size c.positions ≤ size m)
 both_inside m a b c l e d =
     let s = seats_free m a b e in
     let f = s.fits in (

@@ -7,8 +7,9 @@ use Rattle.fault.specs.declared.cause.Cause.TheVariants.{AddressOutside, Erasure
 use Rattle.fault.specs.Causes.{number_of}
 use Rattle.geometry.specs.Blocks.{block_of}
 use Rattle.fault.specs.declared.faults.PartFault.{PartFault}
-use Rattle.part.specs.Meaning.{Erasure, Meaning, size, cell, with_cells}
+use Rattle.part.specs.Meaning.{Meaning, size, cell, with_cells}
 use Rattle.part.specs.Calls.{peek_no, hides, burn_no, BurntBy, Refused, Took}
+use Rattle.part.proofs.Standings.{hides_cells, hides_ticked}
 use Rattle.book.specs.declared.page.Page.{Page}
 use Rattle.book.specs.Pages.{page_at, line_at, used, is_line, shown, page_of}
 use Rattle.book.specs.Reading.{unless, fault_at, first, peeks_no, page_no, reading}
@@ -53,14 +54,14 @@ pages_within f to n (suc i) l =
 -- What stays: all but some cells, and the clock.
 pub record Spared (from k : ℕ) (m n : Meaning) : Type 0 where
   pub sizes : n.sizes ≡ m.sizes
-  pub erasure : n.erasure ≡ m.erasure
+  pub hidden : (b : ℕ) → hides n b ≡ hides m b
   pub long : length n.cells ≡ length m.cells
   pub cells : SameOutside from k m.cells n.cells
 
 spared_then : (from k : ℕ) (m x n : Meaning) → Spared from k m x → Spared from k x n → Spared from k m n
 spared_then from k m x n p q = record {
   sizes = q.sizes ∙ p.sizes;
-  erasure = q.erasure ∙ p.erasure;
+  hidden = λ b. q.hidden b ∙ p.hidden b;
   long = q.long ∙ p.long;
   cells = λ a o. q.cells a o ∙ p.cells a o;
 }
@@ -68,7 +69,7 @@ spared_then from k m x n p q = record {
 spared_same : (from k : ℕ) (m n : Meaning) → n ≡ m → Spared from k m n
 spared_same from k m n e = record {
   sizes = ap (λ (x : Meaning). x.sizes) e;
-  erasure = ap (λ (x : Meaning). x.erasure) e;
+  hidden = λ b. ap (λ (x : Meaning). hides x b) e;
   long = ap (λ (x : Meaning). length x.cells) e;
   cells = λ a o. ap (λ (x : Meaning). get_or x.cells a 0) e;
 }
@@ -76,7 +77,7 @@ spared_same from k m n e = record {
 spared_took : (from k least most : ℕ) (m x n : Meaning) → Took least most x n → Spared from k m x → Spared from k m n
 spared_took from k least most m x n t s = record {
   sizes = ap (λ (y : Meaning). y.sizes) t.is ∙ s.sizes;
-  erasure = ap (λ (y : Meaning). y.erasure) t.is ∙ s.erasure;
+  hidden = λ b. ap (λ (y : Meaning). hides y b) t.is ∙ hides_ticked x t.time b ∙ s.hidden b;
   long = ap (λ (y : Meaning). length y.cells) t.is ∙ s.long;
   cells = λ a o. ap (λ (y : Meaning). get_or y.cells a 0) t.is ∙ s.cells a o;
 }
@@ -90,7 +91,7 @@ spared_burn from k a byte m n None l h b =
     spared_took from k 1 300 m (with_cells m (set m.cells a byte)) n b
     (record {
       sizes = refl;
-      erasure = refl;
+      hidden = hides_cells m (set m.cells a byte);
       long = length-set m.cells a byte;
       cells = λ x o. get_or-set_other m.cells a x byte 0 (λ e. elim o [ inl p ↦ omega arith | inr p ↦ omega arith ]);
     })
@@ -103,33 +104,33 @@ ran_spares from k m n steps r (burnt {k = x} {a = a} {byte = byte} {steps = rest
 ran_spares from k m n steps r (refused {a = a} {byte = byte} e b) w = spared_burn from k a byte m n (burn_no m a byte) w.0 w.1 b
 ran_spares from k m n steps r stopped w = spared_same from k m m refl
 
--- A page is read as before where its cells, the erasure and the blocks are as before.
-peek_same : (m n : Meaning) (a : ℕ) → n.sizes ≡ m.sizes → n.erasure ≡ m.erasure → length n.cells ≡ length m.cells → peek_no n a ≡ peek_no m a
-peek_same m n a s e l =
-    ap (λ (w : ℕ). refusal (leb w a) (hides n.erasure (block_of n.sizes a))) l
-    ∙ ap (λ (o : Option Erasure). refusal (leb (size m) a) (hides o (block_of n.sizes a))) e
-    ∙ ap (λ (z : List ℕ). refusal (leb (size m) a) (hides m.erasure (block_of z a))) s
+-- A page is read as before where its cells, what is hidden and the blocks are as before.
+peek_same : (m n : Meaning) (a : ℕ) → n.sizes ≡ m.sizes → ((b : ℕ) → hides n b ≡ hides m b) → length n.cells ≡ length m.cells → peek_no n a ≡ peek_no m a
+peek_same m n a s h l =
+    ap (λ (w : ℕ). refusal (leb w a) (hides n (block_of n.sizes a))) l
+    ∙ ap (refusal (leb (size m) a)) (h (block_of n.sizes a))
+    ∙ ap (λ (z : List ℕ). refusal (leb (size m) a) (hides m (block_of z a))) s
   where
     refusal : Bool → Bool → Option Cause
     refusal x y = cond x (Some AddressOutside) (cond y (Some ErasureInTheWay) None)
 
-peeks_same : (m n : Meaning) (from : ℕ) → n.sizes ≡ m.sizes → n.erasure ≡ m.erasure → length n.cells ≡ length m.cells
+peeks_same : (m n : Meaning) (from : ℕ) → n.sizes ≡ m.sizes → ((b : ℕ) → hides n b ≡ hides m b) → length n.cells ≡ length m.cells
     → (k : ℕ) → peeks_no n from k ≡ peeks_no m from k
 unfolding peeks_no
-peeks_same m n from s e l zero = refl
-peeks_same m n from s e l (suc k) =
-    ap (λ (o : Option PartFault). first o (fault_at (peek_no n (from + k)) (from + k))) (peeks_same m n from s e l k)
-    ∙ ap (λ (c : Option Cause). first (peeks_no m from k) (fault_at c (from + k))) (peek_same m n (from + k) s e l)
+peeks_same m n from s h l zero = refl
+peeks_same m n from s h l (suc k) =
+    ap (λ (o : Option PartFault). first o (fault_at (peek_no n (from + k)) (from + k))) (peeks_same m n from s h l k)
+    ∙ ap (λ (c : Option Cause). first (peeks_no m from k) (fault_at c (from + k))) (peek_same m n (from + k) s h l)
 
 pub reading_same : (from k : ℕ) (m n : Meaning) (at : ℕ) → Spared from k m n → SameInside at 64 m.cells n.cells → reading n at ≡ reading m at
 unfolding reading
 reading_same from k m n at s c =
     let t : cell n at ≡ cell m at = c at (omega arith) (omega arith) in
     let b : (x : ℕ) → cond (is_line x) (peeks_no n (line_at at x) 8) None ≡ cond (is_line x) (peeks_no m (line_at at x) 8) None =
-    λ x. ap (λ (o : Option PartFault). cond (is_line x) o None) (peeks_same m n (line_at at x) s.sizes s.erasure s.long 8) in
+    λ x. ap (λ (o : Option PartFault). cond (is_line x) o None) (peeks_same m n (line_at at x) s.sizes s.hidden s.long 8) in
     let stop : page_no n at ≡ page_no m at =
     ap (λ (o : Option Cause). first (fault_at o at) (cond (is_line (used (cell n at))) (peeks_no n (line_at at (used (cell n at))) 8) None))
-    (peek_same m n at s.sizes s.erasure s.long)
+    (peek_same m n at s.sizes s.hidden s.long)
     ∙ ap (λ (o : Option PartFault). first (fault_at (peek_no m at) at) o) (b (used (cell n at)))
     ∙ ap (λ (x : ℕ). first (fault_at (peek_no m at) at) (cond (is_line (used x)) (peeks_no m (line_at at (used x)) 8) None)) t in
     let page : page_of n.cells at ≡ page_of m.cells at =

@@ -4,7 +4,7 @@ use Rattle.fault.specs.declared.cause.Cause.{Cause}
 use Rattle.fault.specs.declared.faults.PartFault.{PartFault}
 use Rattle.part.specs.Meaning.{Meaning}
 use Rattle.part.specs.Calls.{answer, burn_no, Burnt}
-use Rattle.book.specs.Pages.{line_at, used, marked, byte_of}
+use Rattle.book.specs.Pages.{line_at, next_line, marked, byte_of}
 use Rattle.book.specs.Burning.{Step, burn, Ran, done, burnt, refused, stopped, bytes_burnt, line_burnt, line_added, page_copied}
 
 -- Some steps, and then others.
@@ -62,17 +62,17 @@ bytes_off m k n at stops i byte f h w p r d e b =
     subst (λ (x : ℕ). Ran m (bytes_burnt at stops x) (Err f) n) j (bytes_stay m n at stops (i + 1) f here (7 - i))
 
 -- A line more of a page: the line was refused, or it was burnt and then the tally.
-pub line_stops : (m n : Meaning) (at tally stops : ℕ) (f : PartFault) → Ran m (bytes_burnt (line_at at (used tally + 1)) stops 8) (Err f) n
+pub line_stops : (m n : Meaning) (at tally stops : ℕ) (f : PartFault) → Ran m (bytes_burnt (line_at at (next_line tally)) stops 8) (Err f) n
     → Ran m (line_added at tally (Some stops)) (Err f) n
 unfolding line_added
-line_stops m n at tally stops f p = ran_stops m n (bytes_burnt (line_at at (used tally + 1)) stops 8) _ f p
+line_stops m n at tally stops f p = ran_stops m n (bytes_burnt (line_at at (next_line tally)) stops 8) _ f p
 
 pub line_ends : (m k n : Meaning) (at tally byte : ℕ) (new : Option ℕ) (r : Result (Unit {0}) PartFault) → byte ≡ marked tally
-    → Ran m (line_burnt (line_at at (used tally + 1)) new) (Ok tt) k → r ≡ answer (burn_no k at byte) at tt → Burnt k at byte n
+    → Ran m (line_burnt (line_at at (next_line tally)) new) (Ok tt) k → r ≡ answer (burn_no k at byte) at tt → Burnt k at byte n
     → Ran m (line_added at tally new) r n
 unfolding line_added
 line_ends m k n at tally byte new r w p e b =
-    ran_then m k n (line_burnt (line_at at (used tally + 1)) new) _ r p
+    ran_then m k n (line_burnt (line_at at (next_line tally)) new) _ r p
     (subst (λ (v : ℕ). Ran k (burn at v ∷ []) r n) w (ran_one k n at byte r e b))
 
 -- A page of the other book.

@@ -1,11 +1,12 @@
 -- Looking through blocks in which nothing is in the way.
-use Rattle.std.proofs.Common.{◌≡◌, ℕ, zero, suc, ◌+◌, ◌-◌, ◌*◌, ◌^◌, ◌<◌, ◌≤◌, Bool, true, false, cond, not, ◌&&◌, ◌||◌, eqb, ltb, List, get_or, Some, None, Option, sym, refl, ap, ◌∙◌, subst, inl, inr, add-one, arith}
+use Rattle.std.proofs.Common.{◌≡◌, ℕ, zero, suc, ◌+◌, ◌-◌, ◌*◌, ◌^◌, ◌<◌, ◌≤◌, Bool, true, false, cond, not, ◌&&◌, ◌||◌, eqb, ltb, List, get_or, None, Option, sym, refl, ap, ◌∙◌, subst, inl, inr, add-one, arith}
 use mathlib.Core.Bool.{beq}
 use Rattle.std.proofs.lemmas.Bool.{true≢false, lt-leb, le-ltb, lt-ltb, eq-eqb, eqb-true, cond-false, cases_Bool, and_from, and_left, and_right, both_ways}
 use Rattle.fault.specs.declared.cause.Cause.{Cause}
 use Rattle.fault.specs.declared.faults.PartFault.{PartFault}
-use Rattle.part.specs.Meaning.{Erasure, Meaning, size, block}
+use Rattle.part.specs.Meaning.{Meaning, size, block}
 use Rattle.part.specs.Calls.{stands, hides, outside, peek_no}
+use Rattle.part.proofs.Standings.{hides_none}
 use Rattle.book.specs.declared.finding.Finding.{Finding}
 use Rattle.book.specs.declared.finding.Finding.TheVariants.{Fresh, First, Second, Neither}
 use Rattle.book.specs.Pages.{page_at, line_at, used, blank, spelled, fit_line, readable_with, readable_page, readable_pages, readable_book}
@@ -17,14 +18,10 @@ use Rattle.book.proofs.Showing.{pages_at}
 use Rattle.book.proofs.Peeking.{peeks_none, peeks_more}
 
 -- Without an erasure every address inside can be peeked.
-pub peek_free : (m : Meaning) (a : ℕ) → stands m.erasure ≡ false → a < size m → peek_no m a ≡ None
-peek_free m a s l = cond-false (outside m a) _ _ (lt-leb (size m) a l) ∙ cond-false (hides m.erasure (block m a)) _ _ (by m.erasure s)
-  where
-    by : (o : Option Erasure) → stands o ≡ false → hides o (block m a) ≡ false
-    by None e = refl
-    by (Some x) e = absurd (true≢false e)
+pub peek_free : (m : Meaning) (a : ℕ) → stands m ≡ false → a < size m → peek_no m a ≡ None
+peek_free m a s l = cond-false (outside m a) _ _ (lt-leb (size m) a l) ∙ cond-false (hides m (block m a)) _ _ (hides_none m (block m a) s)
 
-pub peeks_free : (m : Meaning) (from : ℕ) → stands m.erasure ≡ false → (k : ℕ) → from + k ≤ size m → peeks_no m from k ≡ None
+pub peeks_free : (m : Meaning) (from : ℕ) → stands m ≡ false → (k : ℕ) → from + k ≤ size m → peeks_no m from k ≡ None
 peeks_free m from s zero l = peeks_none m from
 peeks_free m from s (suc k) l =
     subst (λ (j : ℕ). peeks_no m from j ≡ None) (add-one k)

@@ -6,7 +6,7 @@ use Rattle.fault.specs.declared.faults.PartFault.{PartFault}
 use Rattle.part.specs.Meaning.{Meaning}
 use Rattle.part.specs.Calls.{burn_no, Burnt}
 use Rattle.book.specs.declared.page.Page.{Page}
-use Rattle.book.specs.Pages.{page_at, line_at, used, marked, byte_of}
+use Rattle.book.specs.Pages.{page_at, line_at, next_line, marked, byte_of}
 use Rattle.book.specs.Reading.{reading}
 
 -- to burn a byte, or to stop at what a reading between two burns was refused for
@@ -35,7 +35,7 @@ line_burnt at (Some stops) = bytes_burnt at stops 8
 
 -- One line more of a page: the line, and then the tally.
 unfoldable pub line_added : ℕ → ℕ → Option ℕ → List Step
-line_added at tally new = line_burnt (line_at at (used tally + 1)) new ++ (burn at (marked tally) ∷ [])
+line_added at tally new = line_burnt (line_at at (next_line tally)) new ++ (burn at (marked tally) ∷ [])
 
 -- A position goes to a page of a blank book: line 1 and tally FEh where it is filled, nothing where it is empty.
 abbrev pub page_copied : ℕ → Result (Option ℕ) PartFault → List Step

@@ -33,7 +33,7 @@ books_no m a b =
     (cond (a == b || not (width m a == width m b) || not (fit_size (width m a))) (Some (record { cause = UnfitBooks; place = 0 }))
     (cond (guarded m a) (Some (record { cause = Guarded; place = a }))
     (cond (guarded m b) (Some (record { cause = Guarded; place = b }))
-    (cond (stands m.erasure) (Some (record { cause = ErasureInTheWay; place = a })) None)))))
+    (cond (stands m) (Some (record { cause = ErasureInTheWay; place = a })) None)))))
 
 -- 00h in a book's first byte means that it is in use
 abbrev pub in_use : List ℕ → ℕ → Bool

@@ -4,7 +4,7 @@ use Rattle.std.specs.Prelude.{◌≡◌, ℕ, ◌+◌, ◌<◌, ◌≤◌, true,
 use Rattle.fault.specs.declared.cause.Cause.TheVariants.{Worn}
 use Rattle.fault.specs.declared.faults.PartFault.{PartFault}
 use Rattle.part.specs.Meaning.{Meaning, cell, worn, ticked}
-use Rattle.part.specs.Calls.{hides}
+use Rattle.part.specs.Calls.{hides, bars}
 use Rattle.book.specs.Pages.{page_at, line_at, used, is_line, spelled, shown, page_of, blank, readable_page, readable_pages, readable_book}
 use Rattle.book.specs.Reading.{reading}
 use Rattle.book.specs.Burning.{Step, Ran, laid, line_added, will_hold, book_copied}
@@ -38,7 +38,7 @@ pub record ReadLaws : Type 0 where
   -- A page that can be read shows at most 63 stops.
   pub fits : (cells : List ℕ) (at : ℕ) → readable_page cells at ≡ true → StopsFit (shown cells at)
   -- Unless the erasure hides the current book, each of its positions is read, as its page stands in the cells.
-  pub granted : (m : Meaning) (b : Pair) → Seated m b → hides m.erasure b.current.block ≡ false
+  pub granted : (m : Meaning) (b : Pair) → Seated m b → hides m b.current.block ≡ false
       → (p : ℕ) → p ≤ b.positions → reading m (current_page b p) ≡ Ok (page_of m.cells (current_page b p))
 
 -- A page after one line more: it can be read and shows the new stops, or nothing; the cells of other pages are as they were.
@@ -62,10 +62,10 @@ abbrev pub AsWorn : Result (Unit {0}) PartFault → Type 0
 AsWorn (Ok u) = ⊥
 AsWorn (Err fault) = fault.cause ≡ Worn
 
--- A position of the current book whose page can be read and has a line free, with no erasure in the way.
+-- A position of the current book whose page can be read and has a line free, with no erasure that bars a burn there.
 pub record LineFree (m : Meaning) (b : Pair) (p : ℕ) : Type 0 where
   pub seated : Seated m b
-  pub still : m.erasure ≡ None
+  pub unbarred : bars m b.current.block ≡ false
   pub low : 1 ≤ p
   pub high : p ≤ b.positions
   pub readable : readable_page m.cells (current_page b p) ≡ true
@@ -97,10 +97,11 @@ pub record CopyDone (m : Meaning) (b : Pair) (p : ℕ) (new : Option ℕ) (r : R
       → shown cells (spare_page b q) ≡ cond (q == p) new (shown m.cells (current_page b q))
   pub keeps : SameOutside b.spare.start (book_size b.positions) m.cells cells
 
--- A current book that can be read beside a blank one, with no erasure in the way.
+-- A current book that can be read beside a blank one, with no erasure that hides the one or bars a burn in the other.
 pub record CopyFree (m : Meaning) (b : Pair) : Type 0 where
   pub seated : Seated m b
-  pub still : m.erasure ≡ None
+  pub seen : hides m b.current.block ≡ false
+  pub unbarred : bars m b.spare.block ≡ false
   pub readable : readable_pages m.cells b.current.start b.positions ≡ true
   pub blank_spare : blank m.cells b.spare.start (book_size b.positions) ≡ true
 

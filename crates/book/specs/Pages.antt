@@ -1,9 +1,13 @@
 -- Which bytes a page is. A page is 64 bytes, given by the address of its first: byte 0 is the tally, bytes 1 to 7 are FFh, and
 -- line k, for k from 1 to 7, is bytes 8k to 8k + 7. The tally starts as FFh, and each line that is used turns its lowest 1 bit
 -- to 0.
-use Rattle.std.specs.Prelude.{ℕ, zero, suc, ◌+◌, ◌-◌, ◌*◌, ◌/◌, ◌%◌, ◌^◌, Bool, true, cond, ◌&&◌, ◌||◌, List, Some, None, Option, ◌==◌, bit_and, nat_lt, slice_index}
+use Rattle.std.specs.Prelude.{ℕ, zero, suc, ◌+◌, ◌-◌, ◌*◌, ◌/◌, ◌%◌, ◌^◌, ◌<◌, Bool, true, cond, ◌&&◌, ◌||◌, List, Some, None, Option, ◌==◌, bit_and, min, nat_lt, slice_index}
 use Rattle.std.specs.Int.Count.{count_trailing_zeros}
 use Rattle.book.specs.declared.page.Page.{Page}
+
+-- k bytes from an address on end inside the addresses of 32 bits
+abbrev pub Addressable : ℕ → ℕ → Type 0
+Addressable at k = at + k < 4294967296
 
 -- page p of a book that begins at `start`; page 0 is the head, and position p is page p
 abbrev pub page_at : ℕ → ℕ → ℕ
@@ -19,6 +23,10 @@ used tally = count_trailing_zeros 8 tally
 -- there is a line k
 abbrev pub is_line : ℕ → Bool
 is_line k = nat_lt 0 k && nat_lt k 8
+
+-- the line that is used next: the one after the last used line, or the last line again where none is free
+abbrev pub next_line : ℕ → ℕ
+next_line tally = min (used tally + 1) 7
 
 -- the tally with one line more used: its lowest 1 bit is 0
 abbrev pub marked : ℕ → ℕ

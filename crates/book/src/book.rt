@@ -1,5 +1,5 @@
-ghost use Rattle.std.specs.Prelude.{◌≡◌, ◌≤◌};
-ghost use Rattle.book.specs.Pages.{page_at};
+ghost use Rattle.std.specs.Prelude.{◌≡◌};
+ghost use Rattle.book.specs.Pages.{Addressable, page_at};
 ghost use Rattle.book.specs.Pairs.{book_size};
 
 use crate::page::PAGE;
@@ -15,7 +15,7 @@ pub struct Book {
 impl Book {
     // The address of a position's page.
     pub(crate) fn address_of(self, position: u8) -> u32
-        requires { self.start ≤ 16777216 }
+        requires { Addressable (page_at self.start position) 64 }
         ensures { result ≡ page_at self.start position }
     {
         self.start + PAGE * u32::from(position)

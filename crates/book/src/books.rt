@@ -1,5 +1,6 @@
 ghost use Rattle.std.specs.Prelude.{◌≡◌, ◌≤◌, true};
-ghost use Rattle.book.specs.Pairs.{apart};
+ghost use Rattle.book.specs.Pages.{Addressable};
+ghost use Rattle.book.specs.Pairs.{book_size, apart};
 
 use crate::book::Book;
 
@@ -13,7 +14,7 @@ pub struct Books {
     /// The other book's erasure ended as worn.
     pub spoilt: bool,
     ghost few: { positions ≤ 127 },
-    ghost near: { current.start ≤ 16777216 },
-    ghost close: { spare.start ≤ 16777216 },
+    ghost current_fits: { Addressable current.start (book_size positions) },
+    ghost spare_fits: { Addressable spare.start (book_size positions) },
     ghost distinct: { apart current.start spare.start positions ≡ true },
 }

@@ -1,6 +1,6 @@
 // The change of books.
 ghost use Rattle.std.specs.Prelude.{◌≡◌, ◌≤◌, Ok};
-ghost use Rattle.book.specs.Pages.{page_at};
+ghost use Rattle.book.specs.Pages.{Addressable, page_at};
 ghost use Rattle.book.specs.Burning.{Ran, page_copied, will_hold, book_copied};
 ghost use Rattle.book.specs.Views.{pair_of};
 ghost use Rattle.book.specs.Laws.{CopyLaws};
@@ -20,7 +20,7 @@ pub(crate) const IN_USE: u8 = 0x00;
 
 // Writes a registration to line 1 of a blank page, or leaves the page blank.
 fn copy_page<P: Part>(part: &mut P, at: u32, stops: Option<u64>) -> Result<(), PartFault>
-    requires { at ≤ 16800000 }
+    requires { Addressable at 64 }
     ensures { Ran (P.Part.means part.old) (page_copied at (Ok stops)) result (P.Part.means part.new) }
 {
     let Some(stops) = stops else {
@@ -39,6 +39,7 @@ impl Books {
         p: u8,
         new: Option<u64>,
     ) -> Result<(), PartFault>
+        requires { q ≤ self.positions }
         ensures { Ran (P.Part.means part.old) (page_copied (page_at (pair_of self).spare.start q) (will_hold (P.Part.means part.old) (pair_of self).current.start p new q)) result (P.Part.means part.new) }
     {
         let to = self.spare.address_of(q);

@@ -10,9 +10,11 @@ mod finding;
 mod open;
 mod page;
 mod read;
+mod spot;
 mod survey;
 mod write;
 
 pub use book::Book;
 pub use books::Books;
 pub use page::{Page, STOPS};
+pub use spot::Spot;

@@ -14,8 +14,8 @@ use crate::copy::IN_USE;
 use crate::finding::Finding;
 use crate::page::PAGE;
 use crate::survey::is_blank;
-use geometry::Block;
 use fault::{Cause, PartFault};
+use geometry::Block;
 use part::Part;
 
 // The fewest bytes that a book has: a head, and one position.
@@ -73,7 +73,7 @@ fn seat<P: Part>(part: &P, a: u32, b: u32) -> Result<Books, PartFault>
 impl Books {
     // The current book is taken as it is. The other begins to be erased, unless it is blank.
     fn take<P: Part>(self, part: &mut P) -> Result<Books, PartFault>
-        requires still { stands (P.Part.means part.old).erasure ≡ false }
+        requires still { stands (P.Part.means part.old) ≡ false }
         requires within { (pair_of self).spare.start + book_size (pair_of self).positions ≤ size (P.Part.means part.old) }
         ensures { Cleared (blank (P.Part.means part.old).cells (pair_of self).spare.start (book_size (pair_of self).positions)) (P.Part.means part.old) (pair_of self) (pair_in result) (P.Part.means part.new) }
     {
@@ -85,7 +85,7 @@ impl Books {
 
     // Does with two blocks what was found in them.
     fn settle<P: Part>(self, part: &mut P, finding: Finding) -> Result<Books, PartFault>
-        requires still { stands (P.Part.means part.old).erasure ≡ false }
+        requires still { stands (P.Part.means part.old) ≡ false }
         requires one { (pair_of self).current.start + book_size (pair_of self).positions ≤ size (P.Part.means part.old) }
         requires two { (pair_of self).spare.start + book_size (pair_of self).positions ≤ size (P.Part.means part.old) }
         ensures { Settled finding (P.Part.means part.old) (pair_of self) (pair_in result) (P.Part.means part.new) }

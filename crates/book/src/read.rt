@@ -1,18 +1,18 @@
 // Reading pages.
-ghost use Rattle.std.specs.Prelude.{◌≡◌, ◌≤◌};
-ghost use Rattle.book.specs.Pages.{page_at, is_line, spelled, registration};
+ghost use Rattle.std.specs.Prelude.{◌≡◌};
+ghost use Rattle.book.specs.Pages.{Addressable, page_at, is_line, spelled, registration};
 ghost use Rattle.book.specs.Reading.{unless, peeks_no, reading};
 ghost use Rattle.book.specs.Views.{pair_of};
 ghost use Rattle.book.specs.Laws.{ReadLaws};
 
-use crate::books::Books;
 use crate::page::{EMPTY, LAST_LINE, LINE, Page};
+use crate::spot::Spot;
 use fault::PartFault;
 use part::Part;
 
 // The number in the eight bytes of a line, the highest byte first.
 pub(crate) fn line<P: Part>(part: &mut P, at: u32) -> Result<u64, PartFault>
-    requires { at ≤ 16900000 }
+    requires { Addressable at 8 }
     ensures answer { result ≡ unless (peeks_no (P.Part.means part.old) at 8) (spelled (P.Part.means part.old).cells at 8) }
     ensures same { P.Part.means part.new ≡ P.Part.means part.old }
 {
@@ -40,7 +40,7 @@ fn is_line(line: u32) -> bool
 
 // Reads the page that begins at an address. No more is peeked than its tally and the last used line.
 pub(crate) fn page<P: Part>(part: &mut P, at: u32) -> Result<Page, PartFault>
-    requires { at ≤ 16800000 }
+    requires { Addressable at 64 }
     ensures answer { result ≡ reading (P.Part.means part.old) at }
     ensures same { P.Part.means part.new ≡ P.Part.means part.old }
 {
@@ -53,14 +53,14 @@ pub(crate) fn page<P: Part>(part: &mut P, at: u32) -> Result<Page, PartFault>
     Ok(Page { tally, stops })
 }
 
-impl Books {
-    /// Reads a position's page in the current book.
+impl Spot {
+    /// Reads the position's page in the current book.
     #[tactic(auto, using(crate::proofs::LawsOfBooks::read_laws))]
-    pub fn read<P: Part>(self, part: &mut P, position: u8) -> Result<Page, PartFault>
-        ensures answer { result ≡ reading (P.Part.means part.old) (page_at (pair_of self).current.start position) }
+    pub fn read<P: Part>(self, part: &mut P) -> Result<Page, PartFault>
+        ensures answer { result ≡ reading (P.Part.means part.old) (page_at (pair_of self.books).current.start self.position) }
         ensures same { P.Part.means part.new ≡ P.Part.means part.old }
         ensures law { ReadLaws }
     {
-        page(part, self.current.address_of(position))
+        page(part, self.books.current.address_of(self.position))
     }
 }

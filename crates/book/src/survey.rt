@@ -16,8 +16,9 @@ use crate::read::line;
 use part::Part;
 
 // A cell that can be peeked.
+#[tactic(auto, using(crate::proofs::Surveying::peek_free))]
 fn see<P: Part>(part: &mut P, at: u32) -> u8
-    requires still { stands (P.Part.means part.old).erasure ≡ false }
+    requires still { stands (P.Part.means part.old) ≡ false }
     requires within { at < size (P.Part.means part.old) }
     ensures answer { result ≡ cell (P.Part.means part.old) at }
     ensures same { P.Part.means part.new ≡ P.Part.means part.old }
@@ -28,7 +29,7 @@ fn see<P: Part>(part: &mut P, at: u32) -> u8
 // The number in a line that can be peeked.
 #[tactic(auto, using(crate::proofs::Surveying::peeks_free))]
 fn see_line<P: Part>(part: &mut P, at: u32) -> u64
-    requires still { stands (P.Part.means part.old).erasure ≡ false }
+    requires still { stands (P.Part.means part.old) ≡ false }
     requires within { at + 8 ≤ size (P.Part.means part.old) }
     ensures answer { result ≡ spelled (P.Part.means part.old).cells at 8 }
     ensures same { P.Part.means part.new ≡ P.Part.means part.old }
@@ -38,7 +39,7 @@ fn see_line<P: Part>(part: &mut P, at: u32) -> u64
 
 // Whether so many bytes from an address on are FFh.
 pub(crate) fn is_blank<P: Part>(part: &mut P, from: u32, count: u32) -> bool
-    requires still { stands (P.Part.means part.old).erasure ≡ false }
+    requires still { stands (P.Part.means part.old) ≡ false }
     requires within { from + count ≤ size (P.Part.means part.old) }
     ensures answer { result ≡ blank (P.Part.means part.old).cells from count }
     ensures same { P.Part.means part.new ≡ P.Part.means part.old }
@@ -60,7 +61,7 @@ fn is_fit(line: u64) -> bool
 
 // Whether the last used line fits, if one is used.
 fn last_fits<P: Part>(part: &mut P, at: u32, used: u32) -> bool
-    requires still { stands (P.Part.means part.old).erasure ≡ false }
+    requires still { stands (P.Part.means part.old) ≡ false }
     requires within { at + 64 ≤ size (P.Part.means part.old) }
     requires few { used < 8 }
     ensures answer { result ≡ (used == 0 || fit_line (spelled (P.Part.means part.old).cells (line_at at used) 8)) }
@@ -71,7 +72,7 @@ fn last_fits<P: Part>(part: &mut P, at: u32, used: u32) -> bool
 
 // Whether the page that begins at an address can be read.
 fn is_readable<P: Part>(part: &mut P, at: u32) -> bool
-    requires still { stands (P.Part.means part.old).erasure ≡ false }
+    requires still { stands (P.Part.means part.old) ≡ false }
     requires within { at + 64 ≤ size (P.Part.means part.old) }
     ensures answer { result ≡ readable_page (P.Part.means part.old).cells at }
     ensures same { P.Part.means part.new ≡ P.Part.means part.old }
@@ -90,7 +91,7 @@ fn is_readable<P: Part>(part: &mut P, at: u32) -> bool
 
 // Whether a book can be read: the rest of its head is FFh, and so can each position.
 fn is_readable_book<P: Part>(part: &mut P, start: u32, positions: u8) -> bool
-    requires still { stands (P.Part.means part.old).erasure ≡ false }
+    requires still { stands (P.Part.means part.old) ≡ false }
     requires within { start + book_size positions ≤ size (P.Part.means part.old) }
     ensures answer { result ≡ readable_book (P.Part.means part.old).cells start positions }
     ensures same { P.Part.means part.new ≡ P.Part.means part.old }
@@ -109,7 +110,7 @@ fn is_readable_book<P: Part>(part: &mut P, start: u32, positions: u8) -> bool
 impl Books {
     // What the blocks of two books hold.
     pub(crate) fn survey<P: Part>(self, part: &mut P) -> Finding
-        requires still { stands (P.Part.means part.old).erasure ≡ false }
+        requires still { stands (P.Part.means part.old) ≡ false }
         requires one { (pair_of self).current.start + book_size (pair_of self).positions ≤ size (P.Part.means part.old) }
         requires two { (pair_of self).spare.start + book_size (pair_of self).positions ≤ size (P.Part.means part.old) }
         ensures answer { result ≡ found (P.Part.means part.old).cells (pair_of self).current.start (pair_of self).spare.start (pair_of self).positions }

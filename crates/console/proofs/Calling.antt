@@ -16,12 +16,13 @@ use Rattle.book.specs.Pairs.{Pair, spoilt_if}
 use Rattle.book.specs.Finding.{Opened}
 use Rattle.book.specs.Views.{pair_of, pair_in}
 use Rattle.fault.specs.declared.faults.ConsoleFault.{ConsoleFault}
-use Rattle.console.specs.declared.spot.Spot.{Spot}
+use Rattle.fault.specs.Raising.{console_fault}
+use Rattle.book.specs.declared.spot.Spot.{Spot}
 use Rattle.console.specs.declared.way.Way.{Way}
 use Rattle.console.specs.declared.answers.Recalled.{Recalled}
 use Rattle.console.specs.declared.answers.Found.{Found}
 use Rattle.console.specs.Desks.{books_of, desk, opened, moved}
-use Rattle.console.specs.Faults.{raised, no_place, placed}
+use Rattle.console.specs.Faults.{at_position, no_place, placed}
 use Rattle.console.specs.Waiting.{let_end, ends_worn, is_worn, pass_worn}
 use Rattle.console.specs.Checks.{Checked}
 use Rattle.console.specs.Storing.{store_no, way, Goes, Writes, Stored, reported, StoresIf, Stores}
@@ -45,13 +46,18 @@ stores_refused m o p new f e =
     let c = checked_err (store_no (books_of o) p new) o p f e in
     subst (λ (x : Option Cause). StoresIf x (desk m o) (books_of o) p new (Err f) (desk m o)) (sym c.1) (ap Err c.2, refl)
 
-reported_at : (us p : ℕ) (q : Result (Unit {0}) PartFault) → placed p (reported us 0 q) ≡ reported us p q
-reported_at us p (Ok u) = refl
-reported_at us p (Err f) = refl
+-- what is reported of what the part answered
+pub reported_err : (us p : ℕ) (q : Result (Unit {0}) PartFault) (f : ConsoleFault) → placed p q ≡ Err f → Err f ≡ reported us p q
+reported_err us p (Ok u) f e = let z : ◌≡◌ {A = ℕ} 0 1 = cc in absurd (omega arith)
+reported_err us p (Err g) f e = let same : at_position p g ≡ f = cc in ap Err (sym same)
+
+pub reported_ok : (us p : ℕ) (q : Result (Unit {0}) PartFault) (u : Unit {0}) → placed p q ≡ Ok u → Ok us ≡ reported us p q
+reported_ok us p (Ok u) v e = refl
+reported_ok us p (Err g) v e = let z : ◌≡◌ {A = ℕ} 0 1 = cc in absurd (omega arith)
 
 pub stores_done : (m n : Meaning) (o : Option Books) (p us : ℕ) (new : Option ℕ) (s : Spot) (c : Books) (q : Result (Unit {0}) PartFault) (r : Result ℕ ConsoleFault)
     → Checked (store_no (books_of o) p new) o p (Ok s) → Stored m (pair_of s.books) s.position new q n (pair_of c)
-    → us ≡ moved m n → r ≡ placed p (reported us 0 q) → Stores (desk m o) p new r (desk n (Some c))
+    → us ≡ moved m n → r ≡ reported us p q → Stores (desk m o) p new r (desk n (Some c))
 unfolding Stores
 stores_done m n o p us new s c q r e x t d =
     let k = checked_ok (store_no (books_of o) p new) o p s e in
@@ -62,7 +68,7 @@ stores_done m n o p us new s c q r e x t d =
       part = n;
       books = pair_of c;
       stored = subst (λ (i : ℕ). Stored m (pair_of s.books) i new q n (pair_of c)) k.2 x;
-      says = d ∙ reported_at us p q ∙ ap (λ (u : ℕ). reported u p q) t;
+      says = d ∙ ap (λ (u : ℕ). reported u p q) t;
       leaves = refl;
     }))
 
@@ -95,13 +101,19 @@ recalls_refused m o p f e =
     let c = checked_err (recall_no (books_of o) p) o p f e in
     subst (λ (x : Option Cause). RecallsIf x (desk m o) (books_of o) p (Err f) (desk m o)) (sym c.1) (ap Err c.2, refl)
 
-recalled_at : (us p : ℕ) (q : Result (Option ℕ) PartFault) → placed p (recalled us 0 q) ≡ recalled us p q
-recalled_at us p (Ok u) = refl
-recalled_at us p (Err f) = refl
+pub recalled_err : (us p : ℕ) (q : Result (Option ℕ) PartFault) (f : ConsoleFault) → placed p q ≡ Err f → Err f ≡ recalled us p q
+recalled_err us p (Ok u) f e = let z : ◌≡◌ {A = ℕ} 0 1 = cc in absurd (omega arith)
+recalled_err us p (Err g) f e = let same : at_position p g ≡ f = cc in ap Err (sym same)
+
+pub recalled_ok : (us p : ℕ) (q : Result (Option ℕ) PartFault) (x : Option ℕ) → placed p q ≡ Ok x → Ok (record { stops = x; us = us }) ≡ recalled us p q
+recalled_ok us p (Ok u) x e =
+    let same : u ≡ x = cc in
+    ap (λ (o : Option ℕ). Ok (record { stops = o; us = us })) (sym same)
+recalled_ok us p (Err g) x e = let z : ◌≡◌ {A = ℕ} 0 1 = cc in absurd (omega arith)
 
 pub recalls_done : (m n : Meaning) (o : Option Books) (p us : ℕ) (s : Spot) (q : Result (Option ℕ) PartFault) (r : Result Recalled ConsoleFault)
     → Checked (recall_no (books_of o) p) o p (Ok s) → Looks m (λ held. stops_of (reading held (page_at (pair_of s.books).current.start s.position))) q n
-    → us ≡ moved m n → r ≡ placed p (recalled us 0 q) → Recalls (desk m o) p r (desk n o)
+    → us ≡ moved m n → r ≡ recalled us p q → Recalls (desk m o) p r (desk n o)
 unfolding Recalls
 recalls_done m n o p us s q r e x t d =
     let k = checked_ok (recall_no (books_of o) p) o p s e in
@@ -111,7 +123,7 @@ recalls_done m n o p us s q r e x t d =
       seen = q;
       part = n;
       looks = subst (λ (i : ℕ). Looks m (λ held. stops_of (reading held (page_at (pair_of s.books).current.start i))) q n) k.2 x;
-      says = d ∙ recalled_at us p q ∙ ap (λ (u : ℕ). recalled u p q) t;
+      says = d ∙ ap (λ (u : ℕ). recalled u p q) t;
       leaves = ap (desk n) k.1;
     }))
 
@@ -122,14 +134,20 @@ nexts_refused m o p f e =
     let c = checked_err (next_no (books_of o) p) o p f e in
     subst (λ (x : Option Cause). NextsIf x (desk m o) (books_of o) p (Err f) (desk m o)) (sym c.1) (ap Err c.2, refl)
 
-found_at : (us p : ℕ) (q : Result (Option ℕ) PartFault) → placed p (found us 0 q) ≡ found us p q
-found_at us p (Ok u) = refl
-found_at us p (Err f) = refl
+pub found_err : (us p : ℕ) (q : Result (Option ℕ) PartFault) (f : ConsoleFault) → placed p q ≡ Err f → Err f ≡ found us p q
+found_err us p (Ok u) f e = let z : ◌≡◌ {A = ℕ} 0 1 = cc in absurd (omega arith)
+found_err us p (Err g) f e = let same : at_position p g ≡ f = cc in ap Err (sym same)
+
+pub found_ok : (us p : ℕ) (q : Result (Option ℕ) PartFault) (x : Option ℕ) → placed p q ≡ Ok x → Ok (record { position = x; us = us }) ≡ found us p q
+found_ok us p (Ok u) x e =
+    let same : u ≡ x = cc in
+    ap (λ (o : Option ℕ). Ok (record { position = o; us = us })) (sym same)
+found_ok us p (Err g) x e = let z : ◌≡◌ {A = ℕ} 0 1 = cc in absurd (omega arith)
 
 pub nexts_done : (m n : Meaning) (o : Option Books) (p us : ℕ) (s : Spot) (q : Result (Option ℕ) PartFault) (r : Result Found ConsoleFault)
     → Checked (next_no (books_of o) p) o p (Ok s)
     → Looks m (λ held. searched held (pair_of s.books).current.start s.position ((pair_of s.books).positions - s.position)) q n
-    → us ≡ moved m n → r ≡ placed p (found us 0 q) → Nexts (desk m o) p r (desk n o)
+    → us ≡ moved m n → r ≡ found us p q → Nexts (desk m o) p r (desk n o)
 unfolding Nexts
 nexts_done m n o p us s q r e x t d =
     let k = checked_ok (next_no (books_of o) p) o p s e in
@@ -139,7 +157,7 @@ nexts_done m n o p us s q r e x t d =
       seen = q;
       part = n;
       looks = subst (λ (i : ℕ). Looks m (λ held. searched held (pair_of s.books).current.start i ((pair_of s.books).positions - i)) q n) k.2 x;
-      says = d ∙ found_at us p q ∙ ap (λ (u : ℕ). found u p q) t;
+      says = d ∙ ap (λ (u : ℕ). found u p q) t;
       leaves = ap (desk n) k.1;
     }))
 
@@ -161,7 +179,7 @@ opens_done m n o e a b q r c x d l =
     (record { taken = pair_in q; part = n; opens = x; says = d; leaves = l })
 
 pub opens_refused : (m n : Meaning) (o : Option Books) (a b : ℕ) (f : PartFault) (r : Result ℕ ConsoleFault) → is_some o ≡ false
-    → Opened m a b (Err f) n → r ≡ Err (raised f) → Opens (desk m o) a b r (desk n o)
+    → Opened m a b (Err f) n → r ≡ Err (console_fault f) → Opens (desk m o) a b r (desk n o)
 opens_refused m n o a b f r c x d = opens_done m n o o a b (Err f) r c x d (ap (desk n) (none_is o c))
 
 -- wait.
@@ -173,17 +191,17 @@ pass_by : (t : Bool) (n : ℕ) (p q : Progress) → answer (cond t None (Some Ti
 pass_by true n p q e = (refl, cc)
 pass_by false n p q e = let z : ◌≡◌ {A = ℕ} 0 1 = cc in absurd (omega arith)
 
-pass_not : (t : Bool) (n : ℕ) (p : Progress) (f : PartFault) → answer (cond t None (Some TimeTooLong)) n p ≡ Err f → (t ≡ false) × (f ≡ record { cause = TimeTooLong; place = n })
-pass_not true n p f e = let z : ◌≡◌ {A = ℕ} 0 1 = cc in absurd (omega arith)
-pass_not false n p f e = (refl, cc)
+time_not : (t : Bool) (n : ℕ) (p : Progress) (f : PartFault) → answer (cond t None (Some TimeTooLong)) n p ≡ Err f → (t ≡ false) × (f ≡ record { cause = TimeTooLong; place = n })
+time_not true n p f e = let z : ◌≡◌ {A = ℕ} 0 1 = cc in absurd (omega arith)
+time_not false n p f e = (refl, cc)
 
 pub waits_refused : (m k : Meaning) (o : Option Books) (b : Books) (n : ℕ) (f : PartFault) (r : Result ℕ ConsoleFault) → o ≡ Some b
-    → answer (time_no n) n (progress m n m.erasure) ≡ Err f → k ≡ after_pass m n → r ≡ Err (raised f) → Waits (desk m o) n r (desk k o)
+    → answer (time_no n) n (progress m n m.erasure) ≡ Err f → k ≡ after_pass m n → r ≡ Err (console_fault f) → Waits (desk m o) n r (desk k o)
 unfolding Waits
 waits_refused m k o b n f r e a s d =
-    let p = pass_not (leb n longest) n (progress m n m.erasure) f a in
+    let p = time_not (leb n longest) n (progress m n m.erasure) f a in
     subst (λ (x : Option Books). WaitsOn (books_of x) (desk m o) n r (desk k o)) (sym e) (
-      d ∙ ap (λ (x : PartFault). Err (raised x)) p.1 ∙ sym (cond-false (leb n longest) _ _ p.0),
+      d ∙ ap (λ (x : PartFault). Err (console_fault x)) p.1 ∙ sym (cond-false (leb n longest) _ _ p.0),
       ap (λ (x : Option Books). desk k x) e
           ∙ ap (λ (x : Meaning). opened x (pair_of b)) s
           ∙ ap (opened (after_pass m n)) (spared b.spoilt ∙ ap (λ (t : Bool). spoilt_if (t && is_worn (progress m n m.erasure)) (pair_of b)) (sym p.0)),

@@ -7,6 +7,7 @@ use Rattle.part.specs.Calls.{longest, after_pass}
 use Rattle.book.specs.Pairs.{Pair, spoilt_if}
 use Rattle.book.specs.Finding.{Opened}
 use Rattle.fault.specs.declared.faults.ConsoleFault.{ConsoleFault}
+use Rattle.fault.specs.Raising.{console_fault}
 use Rattle.console.specs.declared.answers.Recalled.{Recalled}
 use Rattle.console.specs.declared.answers.Found.{Found}
 use Rattle.console.specs.declared.answers.Said.TheVariants.{Done, Shows, Finds}
@@ -14,7 +15,7 @@ use Rattle.console.specs.declared.answers.Answer.{Answer}
 use Rattle.console.specs.declared.call.Call.{Call}
 use Rattle.console.specs.declared.call.Call.TheVariants.{Set, Clear, Recall, Next, Wait}
 use Rattle.console.specs.Desks.{Desk, closed, opened, moved}
-use Rattle.console.specs.Faults.{raised, no_place}
+use Rattle.console.specs.Faults.{no_place}
 use Rattle.console.specs.Waiting.{pass_worn}
 use Rattle.console.specs.Storing.{Stores}
 use Rattle.console.specs.Looking.{Recalls, Nexts}
@@ -26,7 +27,7 @@ desk_after n (Err f) = closed n
 
 abbrev pub open_report : Meaning → Meaning → Result Pair PartFault → Result ℕ ConsoleFault
 open_report m n (Ok b) = Ok (moved m n)
-open_report m n (Err f) = Err (raised f)
+open_report m n (Err f) = Err (console_fault f)
 
 pub record OpensClosed (m : Meaning) (a b : ℕ) (r : Result ℕ ConsoleFault) (e : Desk) : Type 0 where
   pub taken : Result Pair PartFault
@@ -44,7 +45,7 @@ unfoldable pub Opens : Desk → ℕ → ℕ → Result ℕ ConsoleFault → Desk
 Opens d a b r e = OpensOn d.books d a b r e
 
 abbrev pub wait_report : Meaning → ℕ → Result ℕ ConsoleFault
-wait_report m n = cond (nat_le n longest) (Ok (moved m (after_pass m n))) (Err (raised (record { cause = TimeTooLong; place = n })))
+wait_report m n = cond (nat_le n longest) (Ok (moved m (after_pass m n))) (Err (console_fault (record { cause = TimeTooLong; place = n })))
 
 abbrev pub WaitsOn : Option Pair → Desk → ℕ → Result ℕ ConsoleFault → Desk → Type 0
 WaitsOn None d n r e = (r ≡ Err (no_place OutOfTurn 0)) × (e ≡ d)

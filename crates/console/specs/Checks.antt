@@ -3,7 +3,7 @@ use Rattle.std.specs.Prelude.{◌≡◌, ℕ, Some, None, Ok, Err, Option, Resul
 use Rattle.fault.specs.declared.cause.Cause.{Cause}
 use Rattle.book.specs.declared.books.Books.{Books}
 use Rattle.fault.specs.declared.faults.ConsoleFault.{ConsoleFault}
-use Rattle.console.specs.declared.spot.Spot.{Spot}
+use Rattle.book.specs.declared.spot.Spot.{Spot}
 use Rattle.console.specs.Faults.{no_place}
 
 abbrev pub Spotted : Option Books → ℕ → Result Spot ConsoleFault → Type 0

@@ -1,7 +1,8 @@
 -- A console by what its part means and the books that it has open.
-use Rattle.std.specs.Prelude.{ℕ, ◌+◌, ◌-◌, ◌%◌, Bool, false, not, ◌&&◌, Some, None, Option}
+use Rattle.std.specs.Prelude.{ℕ, Bool, false, not, ◌&&◌, Some, None, Option}
 use Rattle.part.specs.Meaning.{Meaning}
 use Rattle.part.specs.Calls.{stands}
+use Rattle.part.specs.Neighbours.{elapsed}
 use Rattle.book.specs.declared.books.Books.{Books}
 use Rattle.book.specs.Pairs.{Pair}
 use Rattle.book.specs.Views.{pair_of}
@@ -24,13 +25,9 @@ closed m = record { part = m; books = None }
 abbrev pub opened : Meaning → Pair → Desk
 opened m b = record { part = m; books = Some b }
 
--- the microseconds between two readings of a clock that goes round at 4,294,967,296
-abbrev pub between : ℕ → ℕ → ℕ
-between before after = (after + (4294967296 - before)) % 4294967296
-
 -- the microseconds by which the clock of a part has moved
 abbrev pub moved : Meaning → Meaning → ℕ
-moved m n = between m.clock n.clock
+moved m n = elapsed m.clock n.clock
 
 abbrev pub is_spoilt : Option Pair → Bool
 is_spoilt None = false
@@ -38,4 +35,4 @@ is_spoilt (Some b) = b.spoilt
 
 -- No erasure stands, and no book is spoilt.
 abbrev pub is_quiet : Desk → Bool
-is_quiet d = not (stands d.part.erasure) && not (is_spoilt d.books)
+is_quiet d = not (stands d.part) && not (is_spoilt d.books)

@@ -4,54 +4,51 @@ ghost use Rattle.console.specs.Storing.{store_no};
 ghost use Rattle.console.specs.Looking.{recall_no, next_no};
 ghost use Rattle.console.specs.Checks.{Checked};
 
+use crate::faults::refused;
+use book::{Books, STOPS, Spot};
 use fault::{Cause, ConsoleFault};
-use crate::raise::refused;
-use crate::spot::Spot;
-use book::{Books, STOPS};
 
-impl Spot {
-    // Where recall looks, or why it is refused.
-    pub(crate) fn for_recall(books: Option<Books>, position: u32) -> Result<Spot, ConsoleFault>
-        ensures { Checked (recall_no (books_of books) position) books position result }
-    {
-        let books = books.ok_or(refused(Cause::OutOfTurn, position))?;
-        if (1..=u32::from(books.positions)).contains(&position) {
-            Ok(Spot {
-                books,
-                position: position as u8,
-            })
-        } else {
-            Err(refused(Cause::PositionOutside, position))
-        }
+// Where recall looks, or why it is refused.
+pub(crate) fn recall_spot(books: Option<Books>, position: u32) -> Result<Spot, ConsoleFault>
+    ensures { Checked (recall_no (books_of books) position) books position result }
+{
+    let books = books.ok_or(refused(Cause::OutOfTurn, position))?;
+    if (1..=u32::from(books.positions)).contains(&position) {
+        Ok(Spot {
+            books,
+            position: position as u8,
+        })
+    } else {
+        Err(refused(Cause::PositionOutside, position))
     }
+}
 
-    // After which position next looks, or why it is refused.
-    pub(crate) fn for_next(books: Option<Books>, position: u32) -> Result<Spot, ConsoleFault>
-        ensures { Checked (next_no (books_of books) position) books position result }
-    {
-        let books = books.ok_or(refused(Cause::OutOfTurn, position))?;
-        if position <= u32::from(books.positions) {
-            Ok(Spot {
-                books,
-                position: position as u8,
-            })
-        } else {
-            Err(refused(Cause::PositionOutside, position))
-        }
+// After which position next looks, or why it is refused.
+pub(crate) fn next_spot(books: Option<Books>, position: u32) -> Result<Spot, ConsoleFault>
+    ensures { Checked (next_no (books_of books) position) books position result }
+{
+    let books = books.ok_or(refused(Cause::OutOfTurn, position))?;
+    if position <= u32::from(books.positions) {
+        Ok(Spot {
+            books,
+            position: position as u8,
+        })
+    } else {
+        Err(refused(Cause::PositionOutside, position))
     }
+}
 
-    // Where set or clear stores, or why it is refused.
-    pub(crate) fn for_store(
-        books: Option<Books>,
-        position: u32,
-        new: Option<u64>,
-    ) -> Result<Spot, ConsoleFault>
-        ensures { Checked (store_no (books_of books) position new) books position result }
-    {
-        let spot = Spot::for_recall(books, position)?;
-        match new {
-            Some(stops) if stops >= STOPS => Err(refused(Cause::StopOutside, position)),
-            _ => Ok(spot),
-        }
+// Where set or clear stores, or why it is refused.
+pub(crate) fn store_spot(
+    books: Option<Books>,
+    position: u32,
+    new: Option<u64>,
+) -> Result<Spot, ConsoleFault>
+    ensures { Checked (store_no (books_of books) position new) books position result }
+{
+    let spot = recall_spot(books, position)?;
+    match new {
+        Some(stops) if stops >= STOPS => Err(refused(Cause::StopOutside, position)),
+        _ => Ok(spot),
     }
 }

@@ -4,9 +4,9 @@ ghost use Rattle.console.specs.Desks.{desk};
 ghost use Rattle.console.specs.Calls.{Opens};
 
 use crate::console::Console;
-use fault::{Cause, ConsoleFault};
-use crate::raise::refused;
+use crate::faults::refused;
 use book::Books;
+use fault::{Cause, ConsoleFault};
 use part::Part;
 
 impl<P: Part + Drop> Console<P> {

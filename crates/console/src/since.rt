@@ -1,6 +1,6 @@
 // How long a call takes.
 ghost use Rattle.std.specs.Prelude.{◌≡◌};
-ghost use Rattle.console.specs.Desks.{between};
+ghost use Rattle.part.specs.Neighbours.{elapsed};
 
 use crate::console::Console;
 use part::Part;
@@ -8,7 +8,7 @@ use part::Part;
 impl<P: Part + Drop> Console<P> {
     // The microseconds that have passed since a reading of the clock.
     pub(crate) fn since(&self, before: u32) -> u32
-        ensures { result ≡ between before (P.Part.means self.now.part).clock }
+        ensures { result ≡ elapsed before (P.Part.means self.now.part).clock }
     {
         self.part.clock().wrapping_sub(before)
     }

@@ -6,8 +6,8 @@ ghost use Rattle.console.specs.Waiting.{let_end, ends_worn, is_worn};
 ghost use Rattle.console.specs.Calls.{Waits};
 
 use crate::console::Console;
-use fault::{Cause, ConsoleFault, PartFault};
-use crate::raise::refused;
+use crate::faults::refused;
+use fault::{Cause, ConsoleFault};
 use part::{Part, Progress, Standing};
 
 // The microseconds of one pass in which an erasure is waited for.

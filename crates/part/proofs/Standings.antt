@@ -1,8 +1,8 @@
 -- What a part tells at a glance of its erasure is so of the erasure, and what follows from what an erasure hides and bars. The makes of parts and
 -- what stands above them use these laws, and not the text of `hides` and `bars`.
-use Rattle.std.proofs.Common.{◌≡◌, ℕ, Bool, true, false, ◌||◌, eqb, Some, None, Option, is_some, refl, ap, ◌∙◌}
+use Rattle.std.proofs.Common.{◌≡◌, ℕ, Bool, true, false, ◌||◌, eqb, List, Some, None, Option, is_some, refl, ap, ◌∙◌}
 use Rattle.std.proofs.lemmas.Bool.{true≢false}
-use Rattle.part.specs.Meaning.{Erasure, Meaning, guarded, standing_of, shape_of}
+use Rattle.part.specs.Meaning.{Erasure, Meaning, guarded, with_cells, ticked, standing_of, shape_of}
 use Rattle.part.specs.Calls.{stands, running, runs, hidden_by, hides, bars, begin_no}
 use Rattle.part.specs.Standings.{stood, ran, hid, barred, shape_begin_no}
 
@@ -73,6 +73,23 @@ hides_same m n b e = ap (λ (o : Option Erasure). hidden_by o b) e
 pub bars_same : (m n : Meaning) (b : ℕ) → n.erasure ≡ m.erasure → bars n b ≡ bars m b
 unfolding bars
 bars_same m n b e = ap is_some e
+
+-- other cells, or another reading of the clock, change neither
+pub hides_cells : (m : Meaning) (cells : List ℕ) (b : ℕ) → hides (with_cells m cells) b ≡ hides m b
+unfolding hides
+hides_cells m cells b = refl
+
+pub hides_ticked : (m : Meaning) (n b : ℕ) → hides (ticked m n) b ≡ hides m b
+unfolding hides
+hides_ticked m n b = refl
+
+pub bars_cells : (m : Meaning) (cells : List ℕ) (b : ℕ) → bars (with_cells m cells) b ≡ bars m b
+unfolding bars
+bars_cells m cells b = refl
+
+pub bars_ticked : (m : Meaning) (n b : ℕ) → bars (ticked m n) b ≡ bars m b
+unfolding bars
+bars_ticked m n b = refl
 
 pub unbarred : (m : Meaning) (b : ℕ) → bars m b ≡ false → stands m ≡ false
 unfolding bars

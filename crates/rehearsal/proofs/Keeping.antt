@@ -6,12 +6,13 @@ use Rattle.book.specs.Pages.{page_at, shown, readable_book}
 use Rattle.book.specs.Pairs.{Pair}
 use Rattle.book.specs.Finding.{width, positions_of}
 use Rattle.book.proofs.Seats.{Seated}
-use Rattle.book.proofs.Ground.{seated_in}
+use Rattle.book.proofs.Ground.{seated_on}
 pub use Rattle.book.proofs.Opening.{Rest, ready, erasing, spoilt, InBlocks}
 use Rattle.fault.specs.declared.faults.ConsoleFault.{ConsoleFault}
 use Rattle.console.specs.declared.answers.Answer.{Answer}
 use Rattle.console.specs.declared.call.Call.{Call}
-use Rattle.console.specs.Desks.{Desk, opened, between}
+use Rattle.part.specs.Neighbours.{elapsed}
+use Rattle.console.specs.Desks.{Desk, opened}
 use Rattle.rehearsal.specs.Promises.{OnlyLooks, Reports}
 use Rattle.rehearsal.proofs.Tables.{Table, look, after, tells}
 
@@ -35,7 +36,7 @@ pub record Goes (o : Meaning) (a b : ℕ) (f : Table) (m : Meaning) (c : Pair) (
   pub keeps : Keeps o a b (after call (is_ok r) f) e.part books
   pub looks : OnlyLooks call → look r ≡ tells c.positions f call
   pub sure : worn o a ≡ false → worn o b ≡ false → look r ≡ tells c.positions f call
-  pub prompt : OnlyLooks call → (between m.clock e.part.clock ≤ 15) × Reports (between m.clock e.part.clock) r
+  pub prompt : OnlyLooks call → (elapsed m.clock e.part.clock ≤ 15) × Reports (elapsed m.clock e.part.clock) r
 
 -- Time that passes without an erasure changes nothing of it.
 rest_ticked : (m : Meaning) (c : Pair) (time : ℕ) → Rest m c → Rest (ticked m time) c
@@ -45,7 +46,7 @@ rest_ticked m c time (spoilt i s w) = spoilt i s w
 
 pub keeps_ticked : (o : Meaning) (a b : ℕ) (f : Table) (m : Meaning) (c : Pair) (time : ℕ) → Keeps o a b f m c → Keeps o a b f (ticked m time) c
 keeps_ticked o a b f m c time k = record {
-  seated = seated_in m.cells m.wears m.erasure _ c.spoilt m c refl k.seated;
+  seated = seated_on m _ c c.spoilt refl refl refl k.seated;
   blocks = k.blocks;
   sizes = k.sizes;
   guards = k.guards;

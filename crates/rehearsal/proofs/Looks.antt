@@ -1,17 +1,18 @@
 -- What recall and next answer on a console that keeps its books, and that they leave it as it was.
-use Rattle.std.proofs.Common.{◌≡◌, ℕ, zero, suc, ◌+◌, ◌-◌, ◌<◌, ◌≤◌, Bool, true, false, cond, leb, Some, None, Ok, Err, Option, Result, sym, refl, ap, ◌∙◌, subst, ap₂, arith}
+use Rattle.std.proofs.Common.{◌≡◌, ℕ, zero, suc, ◌+◌, ◌-◌, ◌<◌, ◌≤◌, Bool, true, false, cond, leb, is_some, Some, None, Ok, Err, Option, Result, sym, refl, ap, ◌∙◌, subst, ap₂, arith}
 use Rattle.std.specs.Prelude.{is_ok}
 use Rattle.std.proofs.lemmas.Bool.{and_parts, ne_eqb, leb-true, cond-true, cond-false}
 use Rattle.fault.specs.declared.cause.Cause.TheVariants.{PositionOutside}
 use Rattle.part.specs.Meaning.{Erasure, Meaning, with_erasure, ticked, Lawful}
 use Rattle.part.specs.Calls.{Took, hides, can_hold, turned, HeldBy, Held, gone_on}
 use Rattle.part.proofs.Clocks.{ticked_none}
+use Rattle.part.proofs.Standings.{hides_none, hides_still}
 use Rattle.book.specs.Pages.{page_at, page_of}
 use Rattle.book.specs.Reading.{reading}
 use Rattle.book.specs.Burning.{stops_of}
 use Rattle.book.specs.Pairs.{Pair}
 use Rattle.book.proofs.Seats.{Seated}
-use Rattle.book.proofs.Ground.{seated_in}
+use Rattle.book.proofs.Ground.{seated_on}
 use Rattle.book.proofs.Effects.{reads}
 use Rattle.fault.specs.declared.faults.ConsoleFault.{ConsoleFault}
 use Rattle.console.specs.declared.answers.Recalled.{Recalled}
@@ -21,7 +22,8 @@ use Rattle.console.specs.declared.answers.Said.TheVariants.{Shows, Finds}
 use Rattle.console.specs.declared.answers.Answer.{Answer}
 use Rattle.console.specs.declared.call.Call.{Call}
 use Rattle.console.specs.declared.call.Call.TheVariants.{Set, Clear, Recall, Next, Wait}
-use Rattle.console.specs.Desks.{Desk, opened, between, moved}
+use Rattle.part.specs.Neighbours.{elapsed}
+use Rattle.console.specs.Desks.{Desk, opened, moved}
 use Rattle.console.specs.Faults.{no_place}
 use Rattle.console.specs.Looking.{searched, filled_at, or_else, recalled, found, RecallsIf, Recalls, NextsIf, Nexts}
 use Rattle.console.specs.Calls.{shows, finds, Replies}
@@ -48,7 +50,7 @@ glimpse_idle m c held n l s i h g =
       is = g ∙ ap gone_on same ∙ on ∙ sym (ticked_none m l.clock);
       page = λ p j.
           ap (λ (x : Meaning). reading x (page_at c.current.start p)) same
-          ∙ reads m c s (ap (λ (o : Option Erasure). hides o c.current.block) i) p j;
+          ∙ reads m c s (hides_none m c.current.block (ap is_some i)) p j;
     }
 
 -- A running erasure of the other book is held, and hides only that book's block.
@@ -56,8 +58,10 @@ glimpse_held : (m : Meaning) (c : Pair) (held n : Meaning) (left : ℕ) → Seat
     → m.erasure ≡ Some (record { block = c.spare.block; left = left; running = true }) → Held m held → n ≡ gone_on held → Glimpse m c held n
 glimpse_held m c held n left s i h g =
     let x : Took 0 15 (with_erasure m (turned false m.erasure)) held = subst (λ (o : Option Erasure). HeldBy m (can_hold o) held) i h in
-    let off : hides (turned false m.erasure) c.current.block ≡ false =
-    ap (λ (o : Option Erasure). hides (turned false o) c.current.block) i ∙ ne_eqb c.spare.block c.current.block (λ e. s.distinct (sym e)) in
+    let still : Meaning = ticked (with_erasure m (turned false m.erasure)) x.time in
+    let off : hides still c.current.block ≡ false =
+    hides_still still (record { block = c.spare.block; left = left; running = false }) c.current.block (ap (turned false) i) refl
+    ∙ ne_eqb c.spare.block c.current.block (λ e. s.distinct (sym e)) in
     record {
       time = x.time;
       short = x.high;
@@ -67,7 +71,7 @@ glimpse_held m c held n left s i h g =
           ∙ ap (λ (o : Option Erasure). ticked (with_erasure m o) x.time) (sym i);
       page = λ p j.
           ap (λ (y : Meaning). reading y (page_at c.current.start p)) x.is
-          ∙ reads (ticked (with_erasure m (turned false m.erasure)) x.time) c (seated_in m.cells m.wears (turned false m.erasure) _ c.spoilt m c refl s) off p j;
+          ∙ reads still c (seated_on m _ c c.spoilt refl refl refl s) off p j;
     }
 
 -- A look, whatever state the other book is in.
@@ -93,7 +97,7 @@ module _ (o : Meaning) (a b : ℕ) (f : Table) (m : Meaning) (c : Pair) (lawful 
   looked call r e time x h i t u =
       let n : Meaning = ticked m time in
       let clock : m.clock < 4294967296 = lawful.clock in
-      let passed : between m.clock n.clock ≡ time = omega arith in
+      let passed : elapsed m.clock n.clock ≡ time = omega arith in
       subst (λ (d : Desk). Goes o a b f m c call r d) (sym i)
       (record {
         books = c;
@@ -117,7 +121,7 @@ module _ (o : Meaning) (a b : ℕ) (f : Table) (m : Meaning) (c : Pair) (lawful 
       → Goes o a b f m c call r e
   accepted call r e said time n x h j i t u =
       let clock : m.clock < 4294967296 = lawful.clock in
-      let passed : between m.clock (ticked m time).clock ≡ time = omega arith in
+      let passed : elapsed m.clock (ticked m time).clock ≡ time = omega arith in
       looked call r e time x h (i ∙ ap (λ (y : Meaning). opened y c) j) (ap look t ∙ u)
       (subst (Reports time) (sym t) (ap (moved m) j ∙ passed))
 

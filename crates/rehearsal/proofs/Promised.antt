@@ -1,5 +1,5 @@
 -- The promise, from what each single call does.
-use Rattle.std.proofs.Common.{◌≡◌, ℕ, ◌<◌, ◌≤◌, true, false, not, List, None, Ok, Err, Option, Result, sym, refl, ap, ◌∙◌, subst, arith}
+use Rattle.std.proofs.Common.{◌≡◌, ℕ, ◌<◌, ◌≤◌, true, false, not, List, is_some, None, Ok, Err, Option, Result, sym, refl, ap, ◌∙◌, subst, arith}
 use Rattle.std.specs.Prelude.{is_ok}
 use Rattle.std.proofs.lemmas.Bool.{both_ways, and_parts, not-true}
 use Rattle.fault.specs.declared.faults.PartFault.{PartFault}
@@ -13,7 +13,8 @@ use Rattle.fault.specs.declared.faults.ConsoleFault.{ConsoleFault}
 use Rattle.console.specs.declared.answers.Answer.{Answer}
 use Rattle.console.specs.declared.call.Call.{Call}
 use Rattle.console.specs.declared.call.Call.TheVariants.{Set, Clear, Recall, Next, Wait}
-use Rattle.console.specs.Desks.{Desk, opened, moved, between, is_quiet}
+use Rattle.part.specs.Neighbours.{elapsed}
+use Rattle.console.specs.Desks.{Desk, opened, moved, is_quiet}
 use Rattle.console.specs.Calls.{OpensClosed, OpensOn, Opens, Replies, desk_after, open_report}
 use Rattle.rehearsal.specs.declared.line.Line.{Line}
 use Rattle.rehearsal.specs.declared.account.Seats.{Seats}
@@ -64,8 +65,8 @@ played o a b f d c calls log e l i k (more {k = h} {c = call} {cs = cs} {l = lin
     let next = played o a b (after call (is_ok line.reply) f) h g.books cs ls e p.lawful g.leaves g.keeps rest in
     let looked : Looked n f call line = record {
       told = λ only. g.looks only ∙ ap (λ (x : ℕ). tells x f call) k.positions;
-      prompt = λ only. subst (λ (x : ℕ). (between x line.after ≤ 15) × Reports (between x line.after) line.reply) (sym p.before)
-          (subst (λ (x : ℕ). (between d.part.clock x ≤ 15) × Reports (between d.part.clock x) line.reply) (sym p.after) (g.prompt only));
+      prompt = λ only. subst (λ (x : ℕ). (elapsed x line.after ≤ 15) × Reports (elapsed x line.after) line.reply) (sym p.before)
+          (subst (λ (x : ℕ). (elapsed d.part.clock x ≤ 15) × Reports (elapsed d.part.clock x) line.reply) (sym p.after) (g.prompt only));
     } in
     record {
       table = next.table;
@@ -160,14 +161,14 @@ quiet_ready : (e : Desk) (c : Pair) → e ≡ opened e.part c → is_quiet e ≡
     → (e.part.erasure ≡ None) × (c.spoilt ≡ false) × (blank e.part.cells c.spare.start (book_size c.positions) ≡ true)
 quiet_ready e c i q rest = by rest
   where
-    tests : (stands e.part.erasure ≡ false) × (c.spoilt ≡ false)
+    tests : (stands e.part ≡ false) × (c.spoilt ≡ false)
     tests =
-        let p = and_parts (not (stands e.part.erasure)) (not c.spoilt) (subst (λ (d : Desk). is_quiet d ≡ true) i q) in
-        (not-true (stands e.part.erasure) p.0, not-true c.spoilt p.1)
+        let p = and_parts (not (stands e.part)) (not c.spoilt) (subst (λ (d : Desk). is_quiet d ≡ true) i q) in
+        (not-true (stands e.part) p.0, not-true c.spoilt p.1)
 
     by : Rest e.part c → (e.part.erasure ≡ None) × (c.spoilt ≡ false) × (blank e.part.cells c.spare.start (book_size c.positions) ≡ true)
     by (ready j s t) = (j, s, t)
-    by (erasing left j s) = absurd (both_ways (stands e.part.erasure) tests.0 (ap stands j))
+    by (erasing left j s) = absurd (both_ways (stands e.part) tests.0 (ap is_some j))
     by (spoilt j s w) = absurd (both_ways c.spoilt tests.1 s)
 
 no_time : (m : Meaning) → Lawful m → moved m m ≡ 0

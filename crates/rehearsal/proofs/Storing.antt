@@ -1,19 +1,20 @@
 -- What set and clear do to the books.
-use Rattle.std.proofs.Common.{◌≡◌, ℕ, ◌+◌, ◌<◌, ◌≤◌, Bool, true, false, cond, eqb, leb, List, length, get_or, Some, None, Ok, Err, Option, Result, sym, refl, ap, ◌∙◌, subst, inl, inr, arith}
+use Rattle.std.proofs.Common.{◌≡◌, ℕ, ◌+◌, ◌<◌, ◌≤◌, Bool, true, false, cond, eqb, leb, List, length, get_or, is_some, Some, None, Ok, Err, Option, Result, sym, refl, ap, ◌∙◌, subst, inl, inr, arith}
 use Rattle.std.specs.Prelude.{is_ok}
 use Rattle.std.proofs.lemmas.Bool.{cases_Bool, ltb-true, leb-true, and_parts, and_from, eqb-true, lt-leb, cond-true, cond-false, both_ways, eqb-false}
 use Rattle.fault.specs.declared.cause.Cause.{Cause}
 use Rattle.fault.specs.declared.cause.Cause.TheVariants.{PositionOutside, StopOutside}
 use Rattle.fault.specs.declared.faults.PartFault.{PartFault}
-use Rattle.part.specs.Meaning.{Erasure, Meaning, count, worn, with_cells, with_erasure, ticked}
-use Rattle.part.specs.Calls.{answer, stands, hides, begin_no, BegunBy, Started}
+use Rattle.part.specs.Meaning.{Meaning, count, worn, with_cells, with_erasure, ticked}
+use Rattle.part.specs.Calls.{answer, begin_no, BegunBy, Started}
+use Rattle.part.proofs.Standings.{hides_none, bars_none}
 use Rattle.book.specs.Pages.{page_at, used, shown, page_of, blank, readable_page, readable_pages, readable_book}
 use Rattle.book.specs.Burning.{Ran, line_added}
 use Rattle.book.specs.declared.page.Page.{Page}
 use Rattle.book.specs.Reading.{reading}
 use Rattle.book.specs.Pairs.{Pair, book_size, changed, spoilt_if}
 use Rattle.book.proofs.Seats.{SameOutside, SameInside, StopsFit}
-use Rattle.book.proofs.Ground.{seated_in, seated_changed}
+use Rattle.book.proofs.Ground.{seated_on, seated_changed}
 use Rattle.book.proofs.Lines.{same_clear, same_wider}
 use Rattle.book.proofs.Effects.{reads, blank_same, shown_same, page_same, pages_at, pages_from, page_apart, books_apart_back, WornRefused, line_done, line_worn, copy_done, copy_worn}
 use Rattle.fault.specs.declared.faults.ConsoleFault.{ConsoleFault}
@@ -100,7 +101,7 @@ module _ (o : Meaning) (a b : ℕ) (f : Table) (k : Meaning) (c : Pair) (p : ℕ
     keeps_line : (time : ℕ) → length cells ≡ length k.cells → shown cells (page_at c.current.start p) ≡ new
         → readable_page cells (page_at c.current.start p) ≡ true → Keeps o a b (put p new true f) (ticked (with_cells k cells) time) c
     keeps_line time l s t = record {
-      seated = seated_in cells k.wears k.erasure _ c.spoilt k c l h.seated;
+      seated = seated_on k _ c c.spoilt refl refl l h.seated;
       blocks = h.blocks;
       sizes = h.sizes;
       guards = h.guards;
@@ -121,10 +122,10 @@ module _ (o : Meaning) (a b : ℕ) (f : Table) (k : Meaning) (c : Pair) (p : ℕ
   put_line u r n x =
       let t : readable_page k.cells (page_at c.current.start p) ≡ true = pages_at k.cells c.current.start c.positions book.1 p low high in
       elim (cases_Bool (worn k c.current.block)) [
-        | inl w ↦ put_worn r n (line_worn k c p new h.seated idle low high t u fit w r n x)
+        | inl w ↦ put_worn r n (line_worn k c p new h.seated (bars_none k c.current.block (ap is_some idle)) low high t u fit w r n x)
             (λ s i. both_ways (worn k c.current.block) (unworn o a b f k c h s i).0 w)
         | inr w ↦
-            let d = line_done k c p new h.seated idle low high t u fit w r n x in
+            let d = line_done k c p new h.seated (bars_none k c.current.block (ap is_some idle)) low high t u fit w r n x in
             record {
               keeps = subst (λ (y : Result (Unit {0}) PartFault). Keeps o a b (put p new (is_ok y) f) n c) (sym d.accepted)
                   (subst (λ (y : Meaning). Keeps o a b (put p new true f) y c) (sym d.writes.is)
@@ -141,7 +142,7 @@ module _ (o : Meaning) (a b : ℕ) (f : Table) (k : Meaning) (c : Pair) (p : ℕ
     begin_granted : begin_no copied c.current.block ≡ None
     begin_granted =
         cond-false _ _ _ (lt-leb (count k) c.current.block h.seated.current_in)
-        ∙ cond-false _ _ _ (ap stands idle)
+        ∙ cond-false _ _ _ (ap is_some idle)
         ∙ cond-false _ _ _ h.seated.current_open
 
     keeps_changed : (n : Meaning) → Started copied c.current.block n → c.spoilt ≡ false → get_or cells c.spare.start 0 ≡ 0
@@ -151,7 +152,7 @@ module _ (o : Meaning) (a b : ℕ) (f : Table) (k : Meaning) (c : Pair) (p : ℕ
     keeps_changed n g s i t u =
         subst (λ (y : Meaning). Keeps o a b (put p new true f) y (changed c)) (sym g.is) (record {
           seated = seated_changed (with_erasure copied (Some (record { block = c.current.block; left = g.left; running = true }))) c
-              (seated_in cells k.wears (Some (record { block = c.current.block; left = g.left; running = true })) copied.clock c.spoilt k c long h.seated);
+              (seated_on k _ c c.spoilt refl refl long h.seated);
           blocks = blocks_changed a b c h.blocks;
           sizes = h.sizes;
           guards = h.guards;
@@ -168,13 +169,13 @@ module _ (o : Meaning) (a b : ℕ) (f : Table) (k : Meaning) (c : Pair) (p : ℕ
   put_change t s r n z x =
       elim (cases_Bool (worn k c.spare.block)) [
         | inl w ↦
-            let g = copy_worn k c p new h.seated idle book.1 t fit w x.answer x.middle x.copies in
+            let g = copy_worn k c p new h.seated (hides_none k c.current.block (ap is_some idle)) (bars_none k c.spare.block (ap is_some idle)) book.1 t fit w x.answer x.middle x.copies in
             let y : Turned (Err g.fault) x.middle c r n z = subst (λ (q : Result (Unit {0}) PartFault). Turned q x.middle c r n z) g.refused x.turns in
             subst (λ (v : Pair). Put o a b f p new r n v) (sym y.2)
             (put_worn r n (record { fault = g.fault; time = g.time; refused = y.0; is = y.1 ∙ g.is })
             (λ i j. both_ways (worn k c.spare.block) (unworn o a b f k c h i j).1 w))
         | inr w ↦
-            let d = copy_done k c p new h.seated idle book.1 t fit w x.answer x.middle x.copies in
+            let d = copy_done k c p new h.seated (hides_none k c.current.block (ap is_some idle)) (bars_none k c.spare.block (ap is_some idle)) book.1 t fit w x.answer x.middle x.copies in
             let y : Turned (Ok tt) x.middle c r n z = subst (λ (q : Result (Unit {0}) PartFault). Turned q x.middle c r n z) d.accepted x.turns in
             let v : Turned (Ok tt) (copied d.cells d.writes.time d.writes.long) c r n z =
             subst (λ (q : Meaning). Turned (Ok tt) q c r n z) d.writes.is y in
@@ -240,7 +241,7 @@ module _ (o : Meaning) (a b : ℕ) (f : Table) (k : Meaning) (c : Pair) (p : ℕ
 
   pub put_on : Writes (reading k at) k c p new r n z → Put o a b f p new r n z
   put_on x = put_went (went k c p seen new r n z (subst (λ (q : Result Page PartFault). Writes q k c p new r n z)
-      (reads k c h.seated (ap (λ (e : Option Erasure). hides e c.current.block) idle) p high) x))
+      (reads k c h.seated (hides_none k c.current.block (ap is_some idle)) p high) x))
 
 -- what it answers where no book block is worn
 abbrev pub stored : ℕ → ℕ → Option ℕ → Result Said ConsoleFault

@@ -9,8 +9,9 @@ use Rattle.console.specs.declared.answers.Said.{Said}
 use Rattle.console.specs.declared.answers.Said.TheVariants.{Done, Shows, Finds}
 use Rattle.console.specs.declared.call.Call.{Call}
 use Rattle.console.specs.declared.call.Call.TheVariants.{Set, Clear, Recall, Next, Wait}
-use Rattle.console.specs.Desks.{between}
-use Rattle.console.specs.Faults.{no_place, raised}
+use Rattle.part.specs.Neighbours.{elapsed}
+use Rattle.console.specs.Faults.{no_place}
+use Rattle.fault.specs.Raising.{console_fault}
 use Rattle.rehearsal.specs.declared.line.Line.{Line}
 use Rattle.rehearsal.specs.Promises.{OnlyLooks, Reports}
 
@@ -64,12 +65,12 @@ tells n f (Set p stops) = cond (is_position n p) (cond (ltb stops 92233720368547
 tells n f (Clear p) = cond (is_position n p) (Ok Done) (outside p)
 tells n f (Recall p) = cond (is_position n p) (Ok (Shows (f p))) (outside p)
 tells n f (Next p) = cond (leb p n) (Ok (Finds (nearest f p (n - p)))) (outside p)
-tells n f (Wait us) = cond (leb us longest) (Ok Done) (Err (raised (record { cause = TimeTooLong; place = us })))
+tells n f (Wait us) = cond (leb us longest) (Ok Done) (Err (console_fault (record { cause = TimeTooLong; place = us })))
 
 -- what one line of an account says of recall and next
 pub record Looked (n : ℕ) (f : Table) (c : Call) (l : Line) : Type 0 where
   pub told : OnlyLooks c → look l.reply ≡ tells n f c
-  pub prompt : OnlyLooks c → (between l.before l.after ≤ 15) × Reports (between l.before l.after) l.reply
+  pub prompt : OnlyLooks c → (elapsed l.before l.after ≤ 15) × Reports (elapsed l.before l.after) l.reply
 
 -- The account of a list says so of each of its calls; f is the table before the list, and g after it.
 pub data Told (n : ℕ) : Table → List Call → List Line → Table → Type 0 where

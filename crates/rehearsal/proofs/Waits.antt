@@ -10,7 +10,7 @@ use Rattle.part.specs.Calls.{longest, erased, run_on, passed, progress, after_pa
 use Rattle.book.specs.Pages.{page_at, blank, readable_pages}
 use Rattle.book.specs.Pairs.{Pair, book_size, spoilt_if}
 use Rattle.book.proofs.Seats.{SameInside}
-use Rattle.book.proofs.Ground.{seated_in}
+use Rattle.book.proofs.Ground.{seated_on}
 use Rattle.book.proofs.Effects.{blank_same, shown_same, pages_same, page_inside, erased_spare, erased_current}
 use Rattle.fault.specs.declared.faults.ConsoleFault.{ConsoleFault}
 use Rattle.console.specs.declared.answers.Answer.{Answer}
@@ -38,7 +38,7 @@ keeps_later o a b f m c cells x time s k l i t =
     let n : ℕ = c.positions in
     let parts = and_parts (blank m.cells (start + 1) 63) (readable_pages m.cells start n) k.readable in
     record {
-      seated = seated_in cells m.wears x _ (c.spoilt || s) m c l k.seated;
+      seated = seated_on m _ c (c.spoilt || s) refl refl l k.seated;
       blocks = k.blocks;
       sizes = k.sizes;
       guards = k.guards;

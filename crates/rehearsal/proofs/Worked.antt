@@ -1,5 +1,5 @@
 -- The worked examples: those on the chip come from there, and those on a console by the bytes that its calls burn.
-use Rattle.std.proofs.Common.{◌≡◌, ℕ, ◌+◌, ◌<◌, ◌≤◌, Bool, true, false, cond, not, ◌&&◌, ◌||◌, eqb, leb, ltb, List, [], ◌∷◌, ◌++◌, map, length, get_or, set, Some, None, Ok, Option, Result, is_ok, sym, refl, ap, ◌∙◌, subst, subst₂, ap₂, inl, inr, arith, lit<}
+use Rattle.std.proofs.Common.{◌≡◌, ℕ, ◌+◌, ◌<◌, ◌≤◌, Bool, true, false, cond, not, ◌&&◌, ◌||◌, eqb, leb, ltb, List, [], ◌∷◌, ◌++◌, map, length, get_or, set, is_some, Some, None, Ok, Option, Result, is_ok, sym, refl, ap, ◌∙◌, subst, subst₂, ap₂, inl, inr, arith, lit<}
 use lib.Count.{count_trailing_zeros}
 use Rattle.std.proofs.lemmas.List.{length-set, get_or-set_same, get_or-set_other}
 use Rattle.std.proofs.lemmas.Bool.{cases_Bool, and_parts, and_from, ltb-true, leb-true, le-leb, lt-ltb, lt-leb, eqb-true, eqb-false, cond-true, cond-false}
@@ -9,8 +9,9 @@ use Rattle.geometry.specs.Plans.{bench}
 use Rattle.chip.specs.Examples as chips
 use Rattle.chip.proofs.Worked as chip_proofs
 use Rattle.fault.specs.declared.faults.PartFault.{PartFault}
-use Rattle.part.specs.Meaning.{Erasure, Meaning, size, count, cell, worn, guarded, with_cells, ticked}
-use Rattle.part.specs.Calls.{answer, stands, hides, burn_no, Burnt, Took, BurntBy}
+use Rattle.part.specs.Meaning.{Meaning, size, count, cell, block, worn, guarded, with_cells, ticked}
+use Rattle.part.specs.Calls.{answer, burn_no, Burnt, Took, BurntBy}
+use Rattle.part.proofs.Standings.{hides_none, bars_none}
 use Rattle.part.proofs.Clocks.{ticked_more}
 use Rattle.book.specs.declared.page.Page.{Page}
 use Rattle.book.specs.Pages.{page_at, used, shown, page_of, blank, readable_page, readable_pages}
@@ -185,7 +186,7 @@ module _ (m : Meaning) (part : BenchPart m) where
   burn_granted =
       let at_block : block_of m.sizes 0x400 ≡ 1 = ap (λ (s : List ℕ). block_of s 0x400) part.sizes in
       cond-false _ _ _ (lt-leb (size m) 0x400 (omega (arith, long)))
-      ∙ cond-false _ _ _ (ap stands part.still)
+      ∙ cond-false _ _ _ (bars_none m (block m 0x400) (ap is_some part.still))
       ∙ cond-false _ _ _ (ap (guarded m) at_block ∙ part.first_open)
       ∙ cond-false _ _ _ (clears_zero (cell m 0x400))
       ∙ cond-false _ _ _ (ap (worn m) at_block ∙ part.unworn.0)
@@ -200,7 +201,7 @@ module _ (m : Meaning) (part : BenchPart m) where
       let n : ℕ = positions_of (width m 1) in
       let fit : (eqb 1 2 || not (eqb (width m 1) (width m 2)) || not (fit_size (width m 1))) ≡ false =
       ap₂ (λ (v w : ℕ). eqb 1 2 || not (eqb v w) || not (fit_size v)) first_wide second_wide in
-      let no = no_cause m 1 2 (omega (arith, many)) (omega (arith, many)) fit part.first_open part.second_open (ap stands part.still) in
+      let no = no_cause m 1 2 (omega (arith, many)) (omega (arith, many)) fit part.first_open part.second_open (ap is_some part.still) in
       let whole : book_size n ≡ 512 = ap (λ (w : ℕ). book_size (positions_of w)) first_wide in
       let one : blank m.cells (begins m 1) (book_size n) ≡ true = ap₂ (blank m.cells) first_begins whole ∙ first_blank in
       let two : blank m.cells (begins m 2) (book_size n) ≡ true = ap₂ (blank m.cells) second_begins whole ∙ second_blank in
@@ -270,12 +271,12 @@ module _ (m : Meaning) (part : BenchPart m) where
       (ap (ends_worn_by k) part.still) x in
       let y : Writes (Ok here) k books p new r n c =
       subst (λ (o : Result Page PartFault). Writes o k books p new r n c)
-      (reads k books seats (ap (λ (o : Option Erasure). hides o 1) part.still) p high) w in
+      (reads k books seats (hides_none k 1 (ap is_some part.still)) p high) w in
       let z : Ran k (line_added at (get_or k.cells at 0) new) r n × (c ≡ books) =
       subst (λ w. Goes w k books p here new r n c)
       (cond-false (is_none here.stops && is_none new) _ _ (ap (λ (o : Option ℕ). is_none o && is_none new) shows ∙ some)
       ∙ cond-true (ltb (used here.tally) 7) _ _ (lt-ltb (used here.tally) 7 open_line)) y in
-      let d = line_done k books p new seats part.still low high readable open_line fit part.unworn.0 r n z.0 in
+      let d = line_done k books p new seats (bars_none k 1 (ap is_some part.still)) low high readable open_line fit part.unworn.0 r n z.0 in
       wrote_by steps time p new r n c low high d z.1
       (write_laws.exact k n (line_added at (get_or k.cells at 0) new)
       (subst (λ (v : Result (Unit {0}) PartFault). Ran k (line_added at (get_or k.cells at 0) new) v n) d.accepted z.0))

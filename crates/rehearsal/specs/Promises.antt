@@ -3,6 +3,7 @@ use Rattle.std.specs.Prelude.{◌≡◌, ℕ, ◌<◌, ◌≤◌, true, false, L
 use Rattle.std.specs.List.{slice_get}
 use Rattle.part.specs.Meaning.{Meaning, worn, Lawful}
 use Rattle.part.specs.Calls.{longest}
+use Rattle.part.specs.Neighbours.{elapsed}
 use Rattle.book.specs.Pages.{blank}
 use Rattle.book.specs.Finding.{begins, width, positions_of}
 use Rattle.fault.specs.declared.faults.ConsoleFault.{ConsoleFault}
@@ -11,7 +12,7 @@ use Rattle.console.specs.declared.answers.Said.{Said}
 use Rattle.console.specs.declared.answers.Said.TheVariants.{Shows, Finds}
 use Rattle.console.specs.declared.call.Call.{Call}
 use Rattle.console.specs.declared.call.Call.TheVariants.{Set, Clear, Recall, Next, Wait}
-use Rattle.console.specs.Desks.{Desk, closed, between, is_quiet}
+use Rattle.console.specs.Desks.{Desk, closed, is_quiet}
 use Rattle.console.specs.Storing.{fits}
 use Rattle.console.specs.Calls.{Opens, Replies}
 use Rattle.rehearsal.specs.declared.line.Line.{Line}
@@ -64,7 +65,7 @@ pub record Kept (calls : List Call) (log : List Line) (n : ℕ) (e : Desk) : Typ
       → FindsNearest (take i calls) (take i log) n p l.reply
   -- No recall or next, refused or not, moves the clock by more than 15 microseconds, and an accepted one reports just that.
   pub prompt : (i : ℕ) (c : Call) (l : Line) → slice_get calls i ≡ Some c → slice_get log i ≡ Some l → OnlyLooks c
-      → (between l.before l.after ≤ 15) × Reports (between l.before l.after) l.reply
+      → (elapsed l.before l.after ≤ 15) × Reports (elapsed l.before l.after) l.reply
 
 -- two answers are the same, the microseconds aside
 abbrev pub Same : Result Answer ConsoleFault → Result Answer ConsoleFault → Type 0

@@ -3,8 +3,8 @@ ghost use Rattle.console.specs.Calls.{Opens};
 ghost use Rattle.rehearsal.specs.Promises.{SameAgain};
 
 use crate::account::Seats;
-use fault::ConsoleFault;
 use console::Console;
+use fault::ConsoleFault;
 use part::Part;
 
 /// A console made anew over the same part and opened again, as after the power was off.

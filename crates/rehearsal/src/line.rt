@@ -1,5 +1,5 @@
-use fault::ConsoleFault;
 use console::Answer;
+use fault::ConsoleFault;
 
 /// One call of an account: the answer, and the part's clock before and after it.
 #[derive(Clone, Copy)]

@@ -2,7 +2,8 @@ use Rattle.std.proofs.Common.{◌≡◌, false, Some, sym, ap, ◌∙◌, arith}
 use Rattle.part.specs.declared.answers.Shape.{Shape}
 use Rattle.part.specs.Standings.{stood}
 use Rattle.part.specs.Calls.{stands, block_at}
-use Rattle.book.proofs.Seating.{block_known, fits_as_books, blocks_clear, seats_taken, low_start, stood_stands}
+use Rattle.part.proofs.Standings.{stood_is}
+use Rattle.book.proofs.Seating.{block_known, fits_as_books, blocks_clear, seats_taken, in_reach}
 use Rattle.book.proofs.open.seat.Goals as goal
 
 pub invariant_of-result : goal.invariant_of-result
@@ -21,8 +22,8 @@ invariant_of-result g c =
     c.if-a-b.false c.if-first-second.false c.if-not-is_fit_size.false in
     record {
       few = omega (arith, f.few, one.2);
-      near = omega (arith, low_start m c.args.a l one.0, one.1);
-      close = omega (arith, low_start m c.args.b l two.0, two.1);
+      current_fits = omega (arith, in_reach m c.args.a _ l one.0 f.sized, one.1, one.2);
+      spare_fits = omega (arith, in_reach m c.args.b _ l two.0 (sym f.equal ∙ f.sized), two.1, one.2);
       distinct = blocks_clear m c.args.a c.args.b p q c.is_fit_size.result x y c.is_fit_size.ensures
           c.if-a-b.false c.if-first-second.false c.if-not-is_fit_size.false;
     }
@@ -36,8 +37,8 @@ returns g c =
     ◌∙◌ {c = Some p} (sym c.block.ensures) c.in_ok-first.ensures.ok_part in
     let y : block_at m c.args.b ≡ Some q =
     ◌∙◌ {c = Some q} (sym c.block-2.ensures) c.in_ok-second.ensures.ok_part in
-    let s : stands m.erasure ≡ false =
-    sym (stood_stands m.erasure) ∙ ap (λ (x : Shape). stood x.standing) (sym c.shape.ensures) ∙ sym c.stands.ensures ∙ c.if-stands.false in
+    let s : stands m ≡ false =
+    sym (stood_is m) ∙ ap (λ (x : Shape). stood x.standing) (sym c.shape.ensures) ∙ sym c.stands.ensures ∙ c.if-stands.false in
     seats_taken m c.args.a c.args.b p q c.is_fit_size.result x y c.is_fit_size.ensures
     c.if-a-b.false c.if-first-second.false c.if-not-is_fit_size.false
     (sym c.guarded.ensures ∙ c.if-guarded.false) (sym c.guarded-2.ensures ∙ c.if-guarded-2.false) s

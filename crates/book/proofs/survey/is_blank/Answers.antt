@@ -11,7 +11,7 @@ see-requires g c =
     let i = c.args.from + c.loop-i.i in
     let l : i < size (g.P.Part.means c.args.part.now) = omega (arith, c.requires.within) in
     record {
-      still = subst (λ (x : Meaning). stands x.erasure ≡ false) (sym e) c.requires.still;
+      still = subst (λ (x : Meaning). stands x ≡ false) (sym e) c.requires.still;
       within = subst (λ (x : Meaning). i < size x) (sym e) l;
     }
 

@@ -12,7 +12,7 @@ is_readable-requires g c =
     let e = c.loop-p.invariant.0 ∙ c.is_blank.ensures.same in
     let l : c.args.start + 64 * c.loop-p.p + 64 ≤ size m = omega (arith, c.requires.within) in
     record {
-      still = subst (λ (x : Meaning). stands x.erasure ≡ false) (sym e) c.requires.still;
+      still = subst (λ (x : Meaning). stands x ≡ false) (sym e) c.requires.still;
       within = subst (λ (x : Meaning). c.args.start + 64 * c.loop-p.p + 64 ≤ size x) (sym e) l;
     }
 

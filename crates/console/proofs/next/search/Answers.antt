@@ -17,18 +17,18 @@ some_is (Some x) e = (x, refl)
 pub loop-q-init : goal.loop-q-init
 loop-q-init g c =
     let m = g.P.Part.means c.args.part.now in
-    let s = c.args.books.current.start in
-    let z : 0 ≡ c.args.after - c.args.after = omega arith in
-    (refl, subst (λ (k : ℕ). searched m s c.args.after k ≡ Ok None) z (searched_none m s c.args.after), omega arith)
+    let s = c.args.after.books.current.start in
+    let z : 0 ≡ c.args.after.position - c.args.after.position = omega arith in
+    (refl, subst (λ (k : ℕ). searched m s c.args.after.position k ≡ Ok None) z (searched_none m s c.args.after.position), omega arith)
 
 pub loop-q-preserved : goal.loop-q-preserved
 loop-q-preserved g c =
     let k = g.P.Part.means c.loop-q.part in
-    let s = c.args.books.current.start in
+    let s = c.args.after.books.current.start in
     let q = c.loop-q.q in (
       c.read.ensures.same ∙ c.loop-q.invariant.0,
-      subst (λ (x : Meaning). searched x s c.args.after (q + 1 - c.args.after) ≡ Ok None) (sym c.read.ensures.same)
-          (searched_past k s c.args.after q c.in_ok-read.field-0 (omega arith) c.loop-q.invariant.1
+      subst (λ (x : Meaning). searched x s c.args.after.position (q + 1 - c.args.after.position) ≡ Ok None) (sym c.read.ensures.same)
+          (searched_past k s c.args.after.position q c.in_ok-read.field-0 (omega arith) c.loop-q.invariant.1
           (sym c.read.ensures.answer ∙ c.in_ok-read.was) (none_is _ (sym c.is_some.ensures ∙ c.if-is_some.false))),
       omega arith,
     )
@@ -36,39 +36,39 @@ loop-q-preserved g c =
 pub returns-in_err-read : goal.returns-in_err-read
 returns-in_err-read g c =
     let k = g.P.Part.means c.loop-q.part in
-    let s = c.args.books.current.start in
+    let s = c.args.after.books.current.start in
     let p = err_from_is_err_and c.from_residual.result c.from_residual.ensures.1 in
-    let found = searched_stops k s c.args.after c.loop-q.q c.args.books.positions c.in_err-read.field-0.0 (omega arith) (omega arith)
+    let found = searched_stops k s c.args.after.position c.loop-q.q c.args.after.books.positions c.in_err-read.field-0.0 (omega arith) (omega arith)
     c.loop-q.invariant.1 (sym c.read.ensures.answer ∙ c.in_err-read.was) in
     record {
       answer =
           p.1 ∙ ap Err p.2 ∙ sym found
-          ∙ ap (λ (x : Meaning). searched x s c.args.after (c.args.books.positions - c.args.after)) c.loop-q.invariant.0;
+          ∙ ap (λ (x : Meaning). searched x s c.args.after.position (c.args.after.books.positions - c.args.after.position)) c.loop-q.invariant.0;
       same = c.read.ensures.same ∙ c.loop-q.invariant.0;
     }
 
 pub returns-then-is_some : goal.returns-then-is_some
 returns-then-is_some g c =
     let k = g.P.Part.means c.loop-q.part in
-    let s = c.args.books.current.start in
-    let n = c.args.books.positions - c.args.after in
+    let s = c.args.after.books.current.start in
+    let n = c.args.after.books.positions - c.args.after.position in
     let some = some_is c.in_ok-read.field-0.stops (sym c.is_some.ensures ∙ c.if-is_some.true) in
-    let found = searched_finds k s c.args.after c.loop-q.q c.args.books.positions c.in_ok-read.field-0 some.0 (omega arith) (omega arith)
+    let found = searched_finds k s c.args.after.position c.loop-q.q c.args.after.books.positions c.in_ok-read.field-0 some.0 (omega arith) (omega arith)
     c.loop-q.invariant.1 (sym c.read.ensures.answer ∙ c.in_ok-read.was) some.1 in
-    let says : Ok (Some (c.from.result + 1)) ≡ searched k s c.args.after n = ap (λ (q : ℕ). Ok (Some (q + 1))) c.from.ensures ∙ sym found in
+    let says : Ok (Some (c.from.result + 1)) ≡ searched k s c.args.after.position n = ap (λ (q : ℕ). Ok (Some (q + 1))) c.from.ensures ∙ sym found in
     record {
-      answer = says ∙ ap (λ (x : Meaning). searched x s c.args.after n) c.loop-q.invariant.0;
+      answer = says ∙ ap (λ (x : Meaning). searched x s c.args.after.position n) c.loop-q.invariant.0;
       same = c.read.ensures.same ∙ c.loop-q.invariant.0;
     }
 
 pub returns : goal.returns
 returns g c =
     let k = g.P.Part.means c.loop-q.part in
-    let s = c.args.books.current.start in
-    let n : c.loop-q.q - c.args.after ≡ c.args.books.positions - c.args.after = omega (arith, c.loop-q.invariant.2) in
+    let s = c.args.after.books.current.start in
+    let n : c.loop-q.q - c.args.after.position ≡ c.args.after.books.positions - c.args.after.position = omega (arith, c.loop-q.invariant.2) in
     record {
       answer =
-          sym (subst (λ (i : ℕ). searched k s c.args.after i ≡ Ok None) n c.loop-q.invariant.1)
-          ∙ ap (λ (x : Meaning). searched x s c.args.after (c.args.books.positions - c.args.after)) c.loop-q.invariant.0;
+          sym (subst (λ (i : ℕ). searched k s c.args.after.position i ≡ Ok None) n c.loop-q.invariant.1)
+          ∙ ap (λ (x : Meaning). searched x s c.args.after.position (c.args.after.books.positions - c.args.after.position)) c.loop-q.invariant.0;
       same = c.loop-q.invariant.0;
     }

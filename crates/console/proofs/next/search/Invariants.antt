@@ -5,5 +5,5 @@ use Rattle.console.proofs.next.search.Given as goal
 abbrev pub invariant-loop-q : goal.invariant-loop-q
 invariant-loop-q g l =
     (g.P.Part.means l.part ≡ g.P.Part.means l.initial.part)
-    × (searched (g.P.Part.means l.part) l.books.current.start l.after (l.q - l.after) ≡ Ok None)
-    × (l.q - l.after ≤ l.books.positions - l.after)
+    × (searched (g.P.Part.means l.part) l.after.books.current.start l.after.position (l.q - l.after.position) ≡ Ok None)
+    × (l.q - l.after.position ≤ l.after.books.positions - l.after.position)

@@ -34,7 +34,7 @@ settle-requires g c =
     let i = both_inside m c.args.a c.args.b b (g.met.P.Part.lawful c.args.part.now) u.0 u.1 in
     let e = sym c.survey-finding.ensures.same in
     record {
-      still = subst (λ (x : Meaning). stands x.erasure ≡ false) e i.0;
+      still = subst (λ (x : Meaning). stands x ≡ false) e i.0;
       one = subst (λ (x : Meaning). b.current.start + book_size b.positions ≤ size x) e i.1;
       two = subst (λ (x : Meaning). b.spare.start + book_size b.positions ≤ size x) e i.2;
     }

@@ -1,7 +1,8 @@
 use Rattle.std.proofs.Common.{ℕ, Some, Ok, Err, sym, refl, ap, ◌∙◌, subst}
 use Rattle.std.proofs.lemmas.Result.{err_from_is_err_and}
 use Rattle.fault.specs.declared.faults.ConsoleFault.{ConsoleFault}
-use Rattle.console.specs.Desks.{desk, between}
+use Rattle.part.specs.Neighbours.{elapsed}
+use Rattle.console.specs.Desks.{desk}
 use Rattle.console.specs.Calls.{Opens}
 use Rattle.console.proofs.Calling.{opens_already, opens_done, opens_refused}
 use Rattle.console.proofs.console.Console.open.Goals as goal
@@ -23,4 +24,4 @@ pub returns : goal.returns
 returns g c =
     opens_done (g.P.Part.means c.args.self.now.part) (g.P.Part.means c.open.new.part) c.args.self.now.books (Some c.in_ok-books.books)
     c.args.a c.args.b (Ok c.in_ok-books.books) _ (sym c.is_some.ensures ∙ c.if-is_some.false) c.in_ok-books.ensures
-    (ap Ok c.since.ensures ∙ ap (λ (x : ℕ). Ok (between x (g.P.Part.means c.open.new.part).clock)) c.clock-before.ensures) refl
+    (ap Ok c.since.ensures ∙ ap (λ (x : ℕ). Ok (elapsed x (g.P.Part.means c.open.new.part).clock)) c.clock-before.ensures) refl

@@ -3,7 +3,8 @@ use Rattle.std.proofs.lemmas.Result.{err_from_is_err_and}
 use Rattle.std.specs.Option.{ok_or}
 use Rattle.book.specs.declared.books.Books.{Books}
 use Rattle.fault.specs.declared.faults.ConsoleFault.{ConsoleFault}
-use Rattle.console.specs.Desks.{desk, between}
+use Rattle.part.specs.Neighbours.{elapsed}
+use Rattle.console.specs.Desks.{desk}
 use Rattle.console.specs.Calls.{Waits}
 use Rattle.console.proofs.Calling.{waits_closed, waits_refused, waits_done}
 use Rattle.console.proofs.console.Console.wait.Goals as goal
@@ -31,4 +32,4 @@ returns g c =
     waits_done (g.P.Part.means c.args.self.now.part) (g.P.Part.means c.pass.new.self) c.args.self.now.books c.in_ok-books.books c.spoilt_if.result
     c.args.us _ c.in_ok-progress.progress c.ended_worn.result c.in_ok-books.ensures.ok_part (sym c.pass.ensures.answer ∙ c.in_ok-progress.was)
     c.pass.ensures.passed c.ended_worn.ensures c.spoilt_if.ensures
-    (c.since.ensures ∙ ap (λ (x : ℕ). between x (g.P.Part.means c.pass.new.self).clock) c.clock-before.ensures)
+    (c.since.ensures ∙ ap (λ (x : ℕ). elapsed x (g.P.Part.means c.pass.new.self).clock) c.clock-before.ensures)
