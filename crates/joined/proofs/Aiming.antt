@@ -7,7 +7,10 @@ use Rattle.fault.specs.declared.faults.PartFault.{PartFault}
 use Rattle.geometry.specs.declared.block.Block.{Block}
 use Rattle.part.specs.declared.answers.Shape.{Shape}
 use Rattle.part.specs.Meaning.{Meaning, size, count, cell, shape_of}
-use Rattle.part.specs.Calls.{answer, stands, block_at, peek_no, burn_no, begin_no, Burnt, Begun, passed}
+use Rattle.part.specs.declared.answers.Progress.{Progress}
+use Rattle.part.specs.Calls.{answer, stands, time_no, progress, block_at, peek_no, burn_no, begin_no, Burnt, Begun, passed}
+use Rattle.part.specs.Standings.{stood}
+use Rattle.part.proofs.Standings.{stood_is}
 use Rattle.part.specs.Laws.{Call, burn, begin}
 use Rattle.part.specs.Neighbours.{elapsed}
 use Rattle.joined.specs.declared.aim.Aim.{Aim}
@@ -17,6 +20,7 @@ use Rattle.joined.specs.Sides.{Sides, Way, neither, hides_beside, bars_beside, p
 use Rattle.joined.proofs.Asking.{block_right, later_room}
 use Rattle.joined.proofs.Refusing.{cell_left, cell_right}
 use Rattle.joined.proofs.Living.{none_passed, begun_clock}
+use Rattle.joined.proofs.Running.{progress_second}
 use Rattle.joined.proofs.Fitting.{one}
 use Rattle.joined.proofs.Whole.{By, peek_by, burn_by, begin_by, Sound, Kept, kept}
 
@@ -223,6 +227,15 @@ module _ (l : Bool) (m n : Meaning) (v : Sound (record { live = l; first = m; se
         let o = aim_of l (begin_aim m n b) NoSuchBlock b (Second i) (sym told ∙ e) in
         begin_sent (Some (Second i)) m n' (begin_on (Some (Second i)) o.0 o.1)
         (none_passed n m v.second v.first n'.clock (begun_clock m n v.first v.second n i (begin_no n i) n' w), w)
+
+  -- A pass: what became of the erasure, which the second side tells where the first has none.
+  pub pass_second : (k : ℕ) (s : Shape) (r : Result Progress PartFault) → l ≡ true → s ≡ shape_of m → stood s.standing ≡ false
+      → r ≡ answer (time_no k) k (progress n k n.erasure) → r ≡ answer (time_no k) k (progress (joined l m n) k (joined l m n).erasure)
+  pass_second k s r t f i d =
+      let idle : stands m ≡ false = sym (stood_is m) ∙ ap (λ (x : Shape). stood x.standing) (sym f) ∙ i in
+      d
+      ∙ ap (answer (time_no k) k)
+      (sym (ap (λ (x : Meaning). progress x k x.erasure) (on t) ∙ progress_second m n v.first (one m n (v.fit t)) k idle))
 
   -- Where a block of the second side lies.
   pub block_room : (b : ℕ) (s : Shape) (r : Option Block) → l ≡ true → s ≡ shape_of m → r ≡ block_at n b → LaterRoom r s.size

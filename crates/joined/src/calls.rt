@@ -5,7 +5,7 @@ ghost use Rattle.part.specs.Calls.{answer, peek_no, burn_no, begin_no, time_no, 
 ghost use Rattle.part.specs.Laws.{look, burn, begin, hold, go_on, pass};
 ghost use Rattle.joined.specs.Pile.{joined as meaning};
 ghost use Rattle.joined.specs.Sides.{Called, whole_of};
-ghost use Rattle.joined.specs.LawfulProof.{lawful_joined};
+ghost use Rattle.joined.specs.ProofOfLawful.{lawful_joined};
 
 use crate::aim::Aim;
 use crate::joined::{Joined, TwoSided};
