@@ -1,4 +1,4 @@
 pub mod Limits
 pub mod Means
 pub mod Making
-pub mod LawfulProof
+pub mod ProofOfLawful

@@ -2,7 +2,7 @@
 ghost use Rattle.std.specs.Prelude.{◌≡◌, ◌+◌, ◌%◌, OnOk};
 ghost use Rattle.array.specs.Means.{means as meaning};
 ghost use Rattle.part.specs.Calls.{answer, burn_no, Burnt, can_hold, can_go, Held};
-ghost use Rattle.array.specs.LawfulProof;
+ghost use Rattle.array.specs.ProofOfLawful;
 
 use crate::array::Array;
 use fault::{PartFault, time_no};
@@ -13,7 +13,7 @@ use part::{Part, Progress, Shape, Standing, Turn, granted};
 impl Part for Array {
     ghost means = { meaning };
 
-    ghost lawful = { λ s. LawfulProof.lawful s };
+    ghost lawful = { λ s. ProofOfLawful.lawful s };
 
     #[tactic(auto, using(crate::proofs::Rules::array_rules))]
     fn shape(&self) -> Shape {

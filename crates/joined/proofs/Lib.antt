@@ -1,3 +1,4 @@
+pub mod Aiming
 pub mod Asking
 pub mod Fitting
 pub mod Living

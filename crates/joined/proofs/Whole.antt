@@ -4,21 +4,16 @@ use Rattle.std.proofs.lemmas.Bool.{cond-true, cond-false, cond_both, lt-ltb, ltb
 use Rattle.std.proofs.lemmas.Bool.Decides.{nat_tests}
 use Rattle.fault.specs.declared.cause.Cause.{Cause}
 use Rattle.fault.specs.declared.cause.Cause.TheVariants.{AddressOutside, NoSuchBlock, ErasureInTheWay}
-use Rattle.geometry.specs.declared.block.Block.{Block}
-use Rattle.part.specs.declared.answers.Shape.{Shape}
-use Rattle.part.specs.Meaning.{Meaning, Lawful, size, count, cell, shape_of}
-use Rattle.part.specs.Standings.{stood, ran}
-use Rattle.part.proofs.Standings.{stood_is, ran_is}
-use Rattle.part.specs.Calls.{answer, stands, runs, block_at, peek_no, burn_no, begin_no, BurntBy, Burnt, BegunBy, Begun, Held, gone_on, longest, run_on, passed, after_pass}
+use Rattle.part.specs.Meaning.{Meaning, Lawful, size, count}
+use Rattle.part.specs.Calls.{stands, runs, peek_no, burn_no, begin_no, BurntBy, Burnt, BegunBy, Begun, Held, gone_on, longest, run_on, passed, after_pass}
 use Rattle.part.specs.Laws.{Call, look, burn, begin, hold, go_on, pass, Made}
 use Rattle.part.specs.Neighbours.{elapsed}
 use Rattle.joined.specs.declared.aim.Aim.{Aim}
 use Rattle.joined.specs.declared.aim.Aim.TheVariants.{First, Second}
-use Rattle.joined.specs.Pile.{pile, no_part, fits, joined, later, LaterRoom, placed}
-use Rattle.joined.specs.Sides.{Sides, whole_of, Way, neither, to_first, to_second, hides_beside, bars_beside, aimed, peek_aim, burn_aim, begin_aim, sent, turn_way, way, Went, Called}
-use Rattle.joined.proofs.Asking.{block_right, later_room}
-use Rattle.joined.proofs.Refusing.{One, cell_left, cell_right, peek_left, peek_right, burn_left, burn_right, begin_left, begin_right}
-use Rattle.joined.proofs.Living.{none_passed, no_time, unbarred_still, same_second, burnt_first, burnt_second, begun_clock, begun_first, begun_second, held_first, held_second, gone_first, gone_second}
+use Rattle.joined.specs.Pile.{pile, no_part, fits}
+use Rattle.joined.specs.Sides.{Sides, whole_of, Way, to_first, to_second, hides_beside, bars_beside, aimed, peek_aim, burn_aim, begin_aim, sent, turn_way, way, Went, Called}
+use Rattle.joined.proofs.Refusing.{One, peek_left, peek_right, burn_left, burn_right, begin_left, begin_right}
+use Rattle.joined.proofs.Living.{no_time, unbarred_still, same_second, burnt_first, burnt_second, begun_clock, begun_first, begun_second, held_first, held_second, gone_first, gone_second}
 use Rattle.joined.proofs.Running.{run_clock, pass_both}
 use Rattle.joined.proofs.Fitting.{one, fits_same, fits_passed, fits_burnt_first, fits_burnt_second, fits_begun_first, fits_begun_second, fits_held_first, fits_held_second, fits_gone_first, fits_gone_second}
 
@@ -230,122 +225,3 @@ kept s t c v w = by s.live t.live v.fit w.live w.sides
     by true false f e w = absurd (true≢false (sym e))
     by false true f e w = absurd (true≢false e)
     by false false f e w = record { whole = dead_made s.first s.second c t.first t.second w; fit = λ h. absurd (true≢false (sym h)) }
-
--- The aim of a call, by what the sides told.
-module _ (m n : Meaning) (s t : Shape) (x y : Bool) (first : s ≡ shape_of m) (second : t ≡ shape_of n) where
-  aim_bytes : (a : ℕ) (u v : Bool) → x ≡ u → y ≡ v → aimed a s.size t.size x y ≡ aimed a (size m) (size n) u v
-  aim_bytes a u v p q =
-      ap (λ (z : Shape). aimed a z.size t.size x y) first
-      ∙ ap (λ (z : Shape). aimed a (size m) z.size x y) second
-      ∙ ap (λ (z : Bool). aimed a (size m) (size n) z y) p
-      ∙ ap (aimed a (size m) (size n) u) q
-
-  aim_blocks : (b : ℕ) (u v : Bool) → x ≡ u → y ≡ v → aimed b s.blocks t.blocks x y ≡ aimed b (count m) (count n) u v
-  aim_blocks b u v p q =
-      ap (λ (z : Shape). aimed b z.blocks t.blocks x y) first
-      ∙ ap (λ (z : Shape). aimed b (count m) z.blocks x y) second
-      ∙ ap (λ (z : Bool). aimed b (count m) (count n) z y) p
-      ∙ ap (aimed b (count m) (count n) u) q
-
-  pub peek_aimed : (a : ℕ) (o : Option Aim) → x ≡ ran s.standing → y ≡ ran t.standing → aimed a s.size t.size x y ≡ o → peek_aim m n a ≡ o
-  peek_aimed a o p q e =
-      sym (aim_bytes a (hides_beside m) (hides_beside n)
-      (p ∙ ap (λ (z : Shape). ran z.standing) first ∙ ran_is m)
-      (q ∙ ap (λ (z : Shape). ran z.standing) second ∙ ran_is n)) ∙ e
-
-  pub burn_aimed : (a : ℕ) (o : Option Aim) → x ≡ stood s.standing → y ≡ stood t.standing → aimed a s.size t.size x y ≡ o → burn_aim m n a ≡ o
-  burn_aimed a o p q e =
-      sym (aim_bytes a (bars_beside m) (bars_beside n)
-      (p ∙ ap (λ (z : Shape). stood z.standing) first ∙ stood_is m)
-      (q ∙ ap (λ (z : Shape). stood z.standing) second ∙ stood_is n)) ∙ e
-
-  pub begin_aimed : (b : ℕ) (o : Option Aim) → x ≡ stood s.standing → y ≡ stood t.standing → aimed b s.blocks t.blocks x y ≡ o → begin_aim m n b ≡ o
-  begin_aimed b o p q e =
-      sym (aim_blocks b (stands m) (stands n)
-      (p ∙ ap (λ (z : Shape). stood z.standing) first ∙ stood_is m)
-      (q ∙ ap (λ (z : Shape). stood z.standing) second ∙ stood_is n)) ∙ e
-
--- A live part's calls by their aim: what was done, and what is answered.
-module _ (l : Bool) (m n : Meaning) (v : Sound (record { live = l; first = m; second = n })) (t : l ≡ true) where
-  on : joined l m n ≡ pile m n
-  on = cond-true l _ _ t
-
-  fit : fits m n ≡ true
-  fit = v.fit t
-
-  pub burn_called : (a byte : ℕ) (o : Option Aim) (m' n' : Meaning) → burn_aim m n a ≡ o → Went (sent o (burn a byte) (λ i. burn i byte)) m n m' n'
-      → Called (record { live = l; first = m; second = n }) (burn a byte) (record { live = l; first = m'; second = n' })
-  burn_called a byte o m' n' e w = record {
-    live = refl;
-    sides =
-        subst (λ (x : Way). Went x m n m' n')
-        (sym (cond-true l (sent (burn_aim m n a) (burn a byte) (λ i. burn i byte)) neither t
-        ∙ ap (λ (x : Option Aim). sent x (burn a byte) (λ i. burn i byte)) e)) w;
-  }
-
-  pub begin_called : (b : ℕ) (o : Option Aim) (m' n' : Meaning) → begin_aim m n b ≡ o → Went (sent o (begin b) begin) m n m' n'
-      → Called (record { live = l; first = m; second = n }) (begin b) (record { live = l; first = m'; second = n' })
-  begin_called b o m' n' e w = record {
-    live = refl;
-    sides =
-        subst (λ (x : Way). Went x m n m' n')
-        (sym (cond-true l (sent (begin_aim m n b) (begin b) begin) neither t ∙ ap (λ (x : Option Aim). sent x (begin b) begin) e)) w;
-  }
-
-  -- no time passes beside the beginning of an erasure
-  pub begun_beside : (b : ℕ) (m' : Meaning) → Begun m b m' → n ≡ passed n (elapsed m.clock m'.clock)
-  begun_beside b m' w = none_passed m n v.first v.second m'.clock (begun_clock m n v.first v.second m b (begin_no m b) m' w)
-
-  pub begun_beside_second : (b : ℕ) (n' : Meaning) → Begun n b n' → m ≡ passed m (elapsed n.clock n'.clock)
-  begun_beside_second b n' w = none_passed n m v.second v.first n'.clock (begun_clock m n v.first v.second n b (begin_no n b) n' w)
-
-  pub peek_why : (a : ℕ) (o : Option Aim) → peek_aim m n a ≡ o
-      → By a (size m) (size n) (hides_beside m) (hides_beside n) (peek_no (joined l m n) a) (peek_no m a) (peek_no n) o
-  peek_why a o e =
-      subst (λ (x : Meaning). By a (size m) (size n) (hides_beside m) (hides_beside n) (peek_no x a) (peek_no m a) (peek_no n) o) (sym on)
-      (subst (By a (size m) (size n) (hides_beside m) (hides_beside n) (peek_no (pile m n) a) (peek_no m a) (peek_no n)) e
-      (peek_by m n v.first v.second fit a))
-
-  pub burn_why : (a byte : ℕ) (o : Option Aim) → burn_aim m n a ≡ o
-      → By a (size m) (size n) (bars_beside m) (bars_beside n) (burn_no (joined l m n) a byte) (burn_no m a byte) (λ i. burn_no n i byte) o
-  burn_why a byte o e =
-      subst (λ (x : Meaning). By a (size m) (size n) (bars_beside m) (bars_beside n) (burn_no x a byte) (burn_no m a byte) (λ i. burn_no n i byte) o)
-      (sym on)
-      (subst (By a (size m) (size n) (bars_beside m) (bars_beside n) (burn_no (pile m n) a byte) (burn_no m a byte) (λ i. burn_no n i byte)) e
-      (burn_by m n v.first v.second fit a byte))
-
-  pub begin_why : (b : ℕ) (o : Option Aim) → begin_aim m n b ≡ o
-      → By b (count m) (count n) (stands m) (stands n) (begin_no (joined l m n) b) (begin_no m b) (begin_no n) o
-  begin_why b o e =
-      subst (λ (x : Meaning). By b (count m) (count n) (stands m) (stands n) (begin_no x b) (begin_no m b) (begin_no n) o) (sym on)
-      (subst (By b (count m) (count n) (stands m) (stands n) (begin_no (pile m n) b) (begin_no m b) (begin_no n)) e
-      (begin_by m n v.first v.second fit b))
-
-  -- the cells of both sides
-  pub cell_first : (a : ℕ) → a < size m → cell (joined l m n) a ≡ cell m a
-  cell_first a h = ap (λ (x : Meaning). cell x a) on ∙ cell_left m n v.first (one m n fit) a h
-
-  pub cell_second : (a i : ℕ) → a ≡ size m + i → cell (joined l m n) a ≡ cell n i
-  cell_second a i h =
-      let k : a - size m ≡ i = omega arith in
-      ap (λ (x : Meaning). cell x a) on ∙ cell_right m n v.first (one m n fit) a (omega arith) ∙ ap (cell n) k
-
-  -- a block of the second side
-  pub block_room : (b : ℕ) (s : Shape) (r : Option Block) → s ≡ shape_of m → r ≡ block_at n b → LaterRoom r s.size
-  block_room b s r f e =
-      subst (λ (o : Option Block). LaterRoom o s.size) (sym e)
-      (subst (λ (x : Shape). LaterRoom (block_at n b) x.size) (sym f) (later_room m n v.second fit b))
-
-  pub block_second : (b : ℕ) (s : Shape) (r q : Option Block) → s ≡ shape_of m → s.blocks ≤ b → r ≡ block_at n (b - s.blocks) → q ≡ later r s.size
-      → q ≡ block_at (joined l m n) b
-  block_second b s r q f h e d =
-      d
-      ∙ ap (λ (o : Option Block). later o s.size) e
-      ∙ ap (λ (x : Shape). later (block_at n (b - x.blocks)) x.size) f
-      ∙ sym (block_right m n v.first b (omega (arith, ap (λ (x : Shape). x.blocks) f)))
-      ∙ ap (λ (x : Meaning). block_at x b) (sym on)
-
--- An answer with the place that the caller gave.
-pub placed_answer : {X : Type 0} (why : Option Cause) (inner place : ℕ) (x : X) → placed (answer why inner x) place ≡ answer why place x
-placed_answer None inner place x = refl
-placed_answer (Some cause) inner place x = refl

@@ -1,3 +1,3 @@
 pub mod Pile
 pub mod Sides
-pub mod LawfulProof
+pub mod ProofOfLawful

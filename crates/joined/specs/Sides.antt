@@ -1,5 +1,8 @@
 -- What a call of a joined part does to its two sides.
-use Rattle.std.specs.Prelude.{◌≡◌, ℕ, ◌-◌, Bool, ◌&&◌, if◌then◌else◌, Some, None, Option, nat_lt}
+use Rattle.std.specs.Prelude.{◌≡◌, ℕ, ◌-◌, Bool, true, false, ◌&&◌, if◌then◌else◌, Some, None, Option, Ok, Err, Result, nat_lt}
+use Rattle.fault.specs.declared.cause.Cause.{Cause}
+use Rattle.fault.specs.declared.cause.Cause.TheVariants.{ErasureInTheWay}
+use Rattle.fault.specs.declared.faults.PartFault.{PartFault}
 use Rattle.part.specs.Meaning.{Meaning, size, count}
 use Rattle.part.specs.Calls.{stands, runs, passed, after_pass}
 use Rattle.part.specs.Laws.{Call, look, burn, begin, hold, go_on, pass, Made}
@@ -47,6 +50,12 @@ burn_aim m n a = aimed a (size m) (size n) (bars_beside m) (bars_beside n)
 
 abbrev pub begin_aim : Meaning → Meaning → ℕ → Option Aim
 begin_aim m n b = aimed b (count m) (count n) (stands m) (stands n)
+
+-- That side, or the refusal of a call that goes to neither: the part is dead, or an erasure of the other side is in the way.
+abbrev pub aim_or : Bool → Option Aim → Cause → ℕ → Result Aim PartFault
+aim_or false aim dead place = Err (record { cause = dead; place = place })
+aim_or true None dead place = Err (record { cause = ErasureInTheWay; place = place })
+aim_or true (Some aim) dead place = Ok aim
 
 -- the way of a call at a place of the first side, or of one at a place of the second
 abbrev pub sent : Option Aim → Call → (ℕ → Call) → Way

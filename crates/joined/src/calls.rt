@@ -5,12 +5,12 @@ ghost use Rattle.part.specs.Calls.{answer, peek_no, burn_no, begin_no, time_no, 
 ghost use Rattle.part.specs.Laws.{look, burn, begin, hold, go_on, pass};
 ghost use Rattle.joined.specs.Pile.{joined as meaning};
 ghost use Rattle.joined.specs.Sides.{Called, whole_of};
-ghost use Rattle.joined.specs.LawfulProof.{lawful_joined};
+ghost use Rattle.joined.specs.ProofOfLawful.{lawful_joined};
 
 use crate::aim::Aim;
 use crate::joined::{Joined, TwoSided};
-use crate::sides::{beside, either, placed, refused};
-use fault::{Cause, PartFault};
+use crate::sides::{beside, either, placed};
+use fault::PartFault;
 use geometry::Block;
 use part::{Part, Progress, Shape, Standing, Turn};
 
@@ -61,34 +61,23 @@ impl<P: Part, Q: Part> Part for Joined<P, Q> {
         self.first.clock()
     }
 
-    // A running erasure hides the cells of the other side too.
     fn peek(&mut self, address: u32) -> Result<u8, PartFault>
-        ensures answer { let m = whole_of (⟦<Joined<P, Q> as TwoSided>⟧.sides self.old) in result ≡ answer (peek_no m address) address (cell m address) }
-        ensures same { whole_of (⟦<Joined<P, Q> as TwoSided>⟧.sides self.new) ≡ whole_of (⟦<Joined<P, Q> as TwoSided>⟧.sides self.old) }
-        ensures sides { Called (⟦<Joined<P, Q> as TwoSided>⟧.sides self.old) look (⟦<Joined<P, Q> as TwoSided>⟧.sides self.new) }
+        ensures answer { let m = whole_of (⟦<Self as TwoSided>⟧.sides self.old) in result ≡ answer (peek_no m address) address (cell m address) }
+        ensures same { whole_of (⟦<Self as TwoSided>⟧.sides self.new) ≡ whole_of (⟦<Self as TwoSided>⟧.sides self.old) }
+        ensures sides { Called (⟦<Self as TwoSided>⟧.sides self.old) look (⟦<Self as TwoSided>⟧.sides self.new) }
     {
-        let outside = refused(Cause::AddressOutside, address);
-        let in_the_way = refused(Cause::ErasureInTheWay, address);
-        let (first, second) = self.shapes().ok_or(outside)?;
-        let (by_first, by_second) = (first.standing.runs(), second.standing.runs());
-        let aim = Aim::at(address, first.size, second.size, by_first, by_second);
-        match aim.ok_or(in_the_way)? {
+        match self.peek_aim(address)? {
             Aim::First => self.first.peek(address),
             Aim::Second(inner) => placed(self.second.peek(inner), address),
         }
     }
 
     fn burn(&mut self, address: u32, byte: u8) -> Result<(), PartFault>
-        ensures answer { result ≡ answer (burn_no (whole_of (⟦<Joined<P, Q> as TwoSided>⟧.sides self.old)) address byte) address tt }
-        ensures burnt { Burnt (whole_of (⟦<Joined<P, Q> as TwoSided>⟧.sides self.old)) address byte (whole_of (⟦<Joined<P, Q> as TwoSided>⟧.sides self.new)) }
-        ensures sides { Called (⟦<Joined<P, Q> as TwoSided>⟧.sides self.old) (burn address byte) (⟦<Joined<P, Q> as TwoSided>⟧.sides self.new) }
+        ensures answer { result ≡ answer (burn_no (whole_of (⟦<Self as TwoSided>⟧.sides self.old)) address byte) address tt }
+        ensures burnt { Burnt (whole_of (⟦<Self as TwoSided>⟧.sides self.old)) address byte (whole_of (⟦<Self as TwoSided>⟧.sides self.new)) }
+        ensures sides { Called (⟦<Self as TwoSided>⟧.sides self.old) (burn address byte) (⟦<Self as TwoSided>⟧.sides self.new) }
     {
-        let outside = refused(Cause::AddressOutside, address);
-        let in_the_way = refused(Cause::ErasureInTheWay, address);
-        let (first, second) = self.shapes().ok_or(outside)?;
-        let (by_first, by_second) = (first.standing.stands(), second.standing.stands());
-        let aim = Aim::at(address, first.size, second.size, by_first, by_second);
-        match aim.ok_or(in_the_way)? {
+        match self.burn_aim(address)? {
             Aim::First => beside(
                 &mut self.first,
                 &mut self.second,
@@ -103,25 +92,20 @@ impl<P: Part, Q: Part> Part for Joined<P, Q> {
     }
 
     fn begin(&mut self, block: u32) -> Result<(), PartFault>
-        ensures answer { result ≡ answer (begin_no (whole_of (⟦<Joined<P, Q> as TwoSided>⟧.sides self.old)) block) block tt }
-        ensures begun { Begun (whole_of (⟦<Joined<P, Q> as TwoSided>⟧.sides self.old)) block (whole_of (⟦<Joined<P, Q> as TwoSided>⟧.sides self.new)) }
-        ensures sides { Called (⟦<Joined<P, Q> as TwoSided>⟧.sides self.old) (begin block) (⟦<Joined<P, Q> as TwoSided>⟧.sides self.new) }
+        ensures answer { result ≡ answer (begin_no (whole_of (⟦<Self as TwoSided>⟧.sides self.old)) block) block tt }
+        ensures begun { Begun (whole_of (⟦<Self as TwoSided>⟧.sides self.old)) block (whole_of (⟦<Self as TwoSided>⟧.sides self.new)) }
+        ensures sides { Called (⟦<Self as TwoSided>⟧.sides self.old) (begin block) (⟦<Self as TwoSided>⟧.sides self.new) }
     {
-        let no_such_block = refused(Cause::NoSuchBlock, block);
-        let in_the_way = refused(Cause::ErasureInTheWay, block);
-        let (first, second) = self.shapes().ok_or(no_such_block)?;
-        let (by_first, by_second) = (first.standing.stands(), second.standing.stands());
-        let aim = Aim::at(block, first.blocks, second.blocks, by_first, by_second);
-        match aim.ok_or(in_the_way)? {
+        match self.begin_aim(block)? {
             Aim::First => self.first.begin(block),
             Aim::Second(inner) => placed(self.second.begin(inner), block),
         }
     }
 
     fn hold(&mut self) -> Turn
-        ensures answer { result ≡ can_hold (whole_of (⟦<Joined<P, Q> as TwoSided>⟧.sides self.old)).erasure }
-        ensures held { Held (whole_of (⟦<Joined<P, Q> as TwoSided>⟧.sides self.old)) (whole_of (⟦<Joined<P, Q> as TwoSided>⟧.sides self.new)) }
-        ensures sides { Called (⟦<Joined<P, Q> as TwoSided>⟧.sides self.old) hold (⟦<Joined<P, Q> as TwoSided>⟧.sides self.new) }
+        ensures answer { result ≡ can_hold (whole_of (⟦<Self as TwoSided>⟧.sides self.old)).erasure }
+        ensures held { Held (whole_of (⟦<Self as TwoSided>⟧.sides self.old)) (whole_of (⟦<Self as TwoSided>⟧.sides self.new)) }
+        ensures sides { Called (⟦<Self as TwoSided>⟧.sides self.old) hold (⟦<Self as TwoSided>⟧.sides self.new) }
     {
         let Some((first, _)) = self.shapes() else {
             return Turn::Nothing;
@@ -134,9 +118,9 @@ impl<P: Part, Q: Part> Part for Joined<P, Q> {
     }
 
     fn go_on(&mut self) -> Turn
-        ensures answer { result ≡ can_go (whole_of (⟦<Joined<P, Q> as TwoSided>⟧.sides self.old)).erasure }
-        ensures gone { whole_of (⟦<Joined<P, Q> as TwoSided>⟧.sides self.new) ≡ gone_on (whole_of (⟦<Joined<P, Q> as TwoSided>⟧.sides self.old)) }
-        ensures sides { Called (⟦<Joined<P, Q> as TwoSided>⟧.sides self.old) go_on (⟦<Joined<P, Q> as TwoSided>⟧.sides self.new) }
+        ensures answer { result ≡ can_go (whole_of (⟦<Self as TwoSided>⟧.sides self.old)).erasure }
+        ensures gone { whole_of (⟦<Self as TwoSided>⟧.sides self.new) ≡ gone_on (whole_of (⟦<Self as TwoSided>⟧.sides self.old)) }
+        ensures sides { Called (⟦<Self as TwoSided>⟧.sides self.old) go_on (⟦<Self as TwoSided>⟧.sides self.new) }
     {
         let Some((first, _)) = self.shapes() else {
             return Turn::Nothing;
@@ -150,9 +134,9 @@ impl<P: Part, Q: Part> Part for Joined<P, Q> {
 
     // Time passes on both sides of a dead one too.
     fn pass(&mut self, n: u32) -> Result<Progress, PartFault>
-        ensures answer { let m = whole_of (⟦<Joined<P, Q> as TwoSided>⟧.sides self.old) in result ≡ answer (time_no n) n (progress m n m.erasure) }
-        ensures passed { whole_of (⟦<Joined<P, Q> as TwoSided>⟧.sides self.new) ≡ after_pass (whole_of (⟦<Joined<P, Q> as TwoSided>⟧.sides self.old)) n }
-        ensures sides { Called (⟦<Joined<P, Q> as TwoSided>⟧.sides self.old) (pass n) (⟦<Joined<P, Q> as TwoSided>⟧.sides self.new) }
+        ensures answer { let m = whole_of (⟦<Self as TwoSided>⟧.sides self.old) in result ≡ answer (time_no n) n (progress m n m.erasure) }
+        ensures passed { whole_of (⟦<Self as TwoSided>⟧.sides self.new) ≡ after_pass (whole_of (⟦<Self as TwoSided>⟧.sides self.old)) n }
+        ensures sides { Called (⟦<Self as TwoSided>⟧.sides self.old) (pass n) (⟦<Self as TwoSided>⟧.sides self.new) }
     {
         let asked = self.shapes();
         let before = self.first.pass(n);

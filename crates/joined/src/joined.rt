@@ -1,6 +1,6 @@
 ghost use Rattle.std.specs.Prelude.{◌≡◌, true};
-ghost use Rattle.joined.specs.Pile.{fits, joinable as can_join, Asked};
-ghost use Rattle.joined.specs.Sides.{Sides};
+ghost use Rattle.joined.specs.Pile.{fits, joinable as can_join, made, Asked};
+ghost use Rattle.joined.specs.Sides.{Sides, whole_of};
 
 use crate::side::Side;
 use crate::sides::joinable;
@@ -35,7 +35,8 @@ impl<P: Part, Q: Part> TwoSided for Joined<P, Q> {
 impl<P: Part, Q: Part> Joined<P, Q> {
     /// Puts the second part behind the first, and leaves both as they are. The joined part is dead over an erasure, or if the two are too large together.
     pub fn new(first: P, second: Q) -> Joined<P, Q>
-        ensures { ⟦<Joined<P, Q> as TwoSided>⟧.sides result ≡ record { live = can_join (P.Part.means first) (Q.Part.means second); first = P.Part.means first; second = Q.Part.means second } }
+        ensures made { whole_of (⟦<Self as TwoSided>⟧.sides result) ≡ made (P.Part.means first) (Q.Part.means second) }
+        ensures sides { ⟦<Self as TwoSided>⟧.sides result ≡ record { live = can_join (P.Part.means first) (Q.Part.means second); first = P.Part.means first; second = Q.Part.means second } }
     {
         let (first, second) = (Side::new(first), Side::new(second));
         let live = joinable(first.shape(), second.shape());
@@ -48,29 +49,29 @@ impl<P: Part, Q: Part> Joined<P, Q> {
 
     /// Whether it is live, and so has the blocks of both sides; one that is not is dead.
     pub fn is_live(&self) -> bool
-        ensures { result ≡ (⟦<Joined<P, Q> as TwoSided>⟧.sides self.now).live }
+        ensures { result ≡ (⟦<Self as TwoSided>⟧.sides self.now).live }
     {
         self.live
     }
 
     /// The first side.
     pub fn first(&self) -> &P
-        ensures { P.Part.means result.now ≡ (⟦<Joined<P, Q> as TwoSided>⟧.sides self.now).first }
+        ensures { P.Part.means result.now ≡ (⟦<Self as TwoSided>⟧.sides self.now).first }
     {
         &self.first.part
     }
 
     /// The second side.
     pub fn second(&self) -> &Q
-        ensures { Q.Part.means result.now ≡ (⟦<Joined<P, Q> as TwoSided>⟧.sides self.now).second }
+        ensures { Q.Part.means result.now ≡ (⟦<Self as TwoSided>⟧.sides self.now).second }
     {
         &self.second.part
     }
 
     /// Takes the two apart again.
     pub fn into_sides(self) -> (P, Q)
-        ensures first { P.Part.means result.0 ≡ (⟦<Joined<P, Q> as TwoSided>⟧.sides self).first }
-        ensures second { Q.Part.means result.1 ≡ (⟦<Joined<P, Q> as TwoSided>⟧.sides self).second }
+        ensures first { P.Part.means result.0 ≡ (⟦<Self as TwoSided>⟧.sides self).first }
+        ensures second { Q.Part.means result.1 ≡ (⟦<Self as TwoSided>⟧.sides self).second }
     {
         let Joined {
             first,

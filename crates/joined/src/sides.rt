@@ -6,7 +6,7 @@ ghost use Rattle.part.specs.Neighbours.{elapsed};
 ghost use Rattle.joined.specs.Pile.{either_stands, shapes_joinable, Room, placed};
 
 use crate::joined::{MOST_BLOCKS, MOST_BYTES};
-use fault::{Cause, PartFault};
+use fault::PartFault;
 use part::{Part, Shape, Standing, catch_up};
 
 // Whether two parts are small enough together, and have no erasure.
@@ -41,13 +41,6 @@ fn raised(standing: Standing, blocks: u32) -> Standing
         Standing::Running(block) => Standing::Running(blocks + block),
         Standing::Suspended(block) => Standing::Suspended(blocks + block),
     }
-}
-
-// A refusal, with the place that the caller gave.
-pub(crate) fn refused(cause: Cause, place: u32) -> PartFault
-    ensures { result ≡ record { cause = cause; place = place } }
-{
-    PartFault { cause, place }
 }
 
 // The same answer, with the place that the caller gave.

@@ -1,7 +1,8 @@
 use Rattle.std.proofs.Common.{◌≡◌, ◌+◌, ◌<◌, true, Option, subst, rules}
 use Rattle.geometry.specs.declared.block.Block.{Block}
 use Rattle.joined.specs.Pile.{LaterRoom}
-use Rattle.joined.proofs.Whole.{Sound, block_room, block_second}
+use Rattle.joined.proofs.Whole.{Sound}
+use Rattle.joined.proofs.Aiming.{block_room, block_second}
 use Rattle.joined.proofs.calls.JoinedPart.block.Goals as goal
 
 pub map-requires : goal.map-requires
@@ -15,7 +16,7 @@ map-requires g c =
     let first = c.in_ok-first.first in
     λ x e.
     let room : first.size + x.start < 4294967296 =
-    subst (λ (o : Option Block). LaterRoom o first.size) e (block_room s.live m n v t _ first c.block-else-number-first.result (search rules) c.block-else-number-first.ensures) in
+    subst (λ (o : Option Block). LaterRoom o first.size) e (block_room s.live m n v _ first c.block-else-number-first.result t (search rules) c.block-else-number-first.ensures) in
     search rules
 
 pub returns-else-number-first : goal.returns-else-number-first
@@ -26,5 +27,5 @@ returns-else-number-first g c =
     let t : s.live ≡ true = search rules in
     let v : Sound (record { live = s.live; first = m; second = n }) =
     record { first = g.met.P.Part.lawful s.first.part; second = g.met.Q.Part.lawful s.second.part; fit = s.fit } in
-    block_second s.live m n v t c.args.number c.in_ok-first.first c.block-else-number-first.result c.map.result (search rules) c.if-number-first.false
+    block_second s.live m n v c.args.number c.in_ok-first.first c.block-else-number-first.result c.map.result t (search rules) c.if-number-first.false
     c.block-else-number-first.ensures (search rules)
