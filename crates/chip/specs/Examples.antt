@@ -1,11 +1,11 @@
 -- Worked examples on the bench chip, which starts as FFh throughout, with 16 microseconds to program a byte, 1,000 to erase a
 -- block and 15 to suspend. Block 1 begins at 400h and block 2 at 600h.
-use Rattle.std.specs.Prelude.{◌≡◌, ℕ, List, [], ◌∷◌, ◌++◌, replicate, Ok, Err, Result}
+use Rattle.std.specs.Prelude.{◌≡◌, ℕ, ◌+◌, List, [], ◌∷◌, ◌++◌, replicate, Ok, Err, Result}
 use Rattle.fault.specs.declared.faults.ChipFault.{ChipFault}
-use Rattle.geometry.specs.declared.kinds.TheConstants.{BENCH}
-use Rattle.geometry.specs.Sets.{none}
+use Rattle.geometry.specs.declared.kinds.TheConstants.{TOP, BOTTOM, BENCH}
+use Rattle.geometry.specs.Sets.{none, only}
 use Rattle.chip.specs.Flash.{Flash}
-use Rattle.chip.specs.Making.{made}
+use Rattle.chip.specs.Making.{fresh, made}
 use Rattle.chip.specs.Writes.{written}
 use Rattle.chip.specs.Reads.{answered, seen}
 use Rattle.chip.specs.Times.{after}
@@ -84,3 +84,30 @@ Each (e ∷ es) = (outcome bench_chip e.cycles ≡ e.reads) × Each es
 
 abbrev pub WorkedExamples : Type 0
 WorkedExamples = Each table
+
+-- A chip in ID mode: which it is, its device code, and where its block 1 begins, which is protected here and no other is.
+pub record Identity : Type 0 where
+  pub kind : ℕ
+  pub code : ℕ
+  pub protected : ℕ
+
+abbrev pub identities : List Identity
+identities =
+    record { kind = TOP; code = 0x3B; protected = 65536 } ∷ record { kind = BOTTOM; code = 0xBA; protected = 16384 }
+    ∷ record { kind = BENCH; code = 0xBA; protected = 0x400 } ∷ []
+
+-- a chip whose block 1 is protected; its cells do not matter in ID mode
+abbrev pub guarded_chip : ℕ → Flash
+guarded_chip kind = fresh (record { kind = kind; program = 16; erase = 1000; suspend = 15; protected = only 1; worn = none }) []
+
+-- the maker's code 98h, the device code, 00h for block 0 and 01h for block 1, and 00h where A6 or both A1 and A0 are 1
+abbrev pub EachIdentity : List Identity → Type 0
+EachIdentity [] = Unit {0}
+EachIdentity (i ∷ is) =
+    (outcome (guarded_chip i.kind)
+    (unlock ++ write 0x5555 0x90 ∷ read 0 ∷ read 1 ∷ read 2 ∷ read (i.protected + 2) ∷ read 3 ∷ read 0x40 ∷ [])
+    ≡ 0x98 ∷ i.code ∷ 0x00 ∷ 0x01 ∷ 0x00 ∷ 0x00 ∷ [])
+    × EachIdentity is
+
+abbrev pub IdentityExamples : Type 0
+IdentityExamples = EachIdentity identities

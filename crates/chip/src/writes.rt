@@ -21,7 +21,7 @@ impl Chip {
     fn block_alone(&self, address: u32) -> BlockSet
         ensures { result ≡ block_alone (view self.now) address }
     {
-        BlockSet::only(self.block_at(address))
+        self.ground().block_alone(address)
     }
 
     // What a write means at a place of a sequence.
