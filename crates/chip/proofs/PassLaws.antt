@@ -7,8 +7,9 @@ use Rattle.chip.specs.declared.state.Program.{Program}
 use Rattle.chip.specs.declared.state.Erase.{Erase}
 use Rattle.chip.specs.declared.state.State.{State}
 use Rattle.chip.specs.declared.state.State.TheVariants.{Ready, Programming, Erasing, Suspending, Suspended, Failed}
-use Rattle.chip.specs.Flash.{Flash, cell, protected, worn}
-use Rattle.chip.specs.Writes.{read_mode, needs_erase}
+use Rattle.flash.specs.Programs.{program_fails}
+use Rattle.chip.specs.Flash.{Flash, ground_of}
+use Rattle.chip.specs.Writes.{read_mode}
 use Rattle.chip.specs.Times.{programmed, spoils, erased, ended, due, lowered, step_by, tick, with_clock, passed}
 use Rattle.chip.specs.Resets.{after_reset}
 use Rattle.chip.specs.Laws.{busy, has_failed, PassLaws, ResetLaws, AllSound}
@@ -28,14 +29,11 @@ data Course : State → Type 0 where
 
 programmed_course : (f : Flash) (p : Program) → Course (programmed f p).state
 programmed_course f p =
-    let On : Flash → Type 0 = λ g. Course g.state in
-    cond_both (protected f p.address) _ _ On (λ _. ready)
-    (λ _. cond_both (worn f p.address) _ _ On (λ _. failed refl)
-    (λ _. cond_both (needs_erase (cell f p.address) p.byte) _ _ Course (λ _. failed refl) (λ _. ready)))
+    cond_both (program_fails (ground_of f) f.cells p.address p.byte) _ _ Course (λ _. failed refl) (λ _. ready)
 
 erased_course : (f : Flash) (e : Erase) (p : Phase) → Course (erased f e p).state
 erased_course f e Window = works refl
-erased_course f e Begun = cond_both (spoils f e.selected) _ _ (λ (g : Flash). Course g.state) (λ _. failed refl) (λ _. ready)
+erased_course f e Begun = cond_both (spoils f e.selected) _ _ Course (λ _. failed refl) (λ _. ready)
 
 busy_course : (f : Flash) (s : State) → f.state ≡ s → busy s ≡ true → Course (step_by f (due s)).state
 busy_course f (Ready m p) e n = absurd (both_ways _ refl n)

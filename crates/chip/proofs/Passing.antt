@@ -5,10 +5,9 @@ use Rattle.chip.specs.declared.state.Phase.{Phase}
 use Rattle.chip.specs.declared.state.Phase.TheVariants.{Window, Erasing as Begun}
 use Rattle.chip.specs.declared.state.State.{State}
 use Rattle.chip.specs.declared.state.State.TheVariants.{Ready, Programming, Erasing, Suspending, Suspended, Failed}
-use Rattle.geometry.specs.Blocks.{filled}
-use Rattle.chip.specs.Flash.{Flash, with_state, with_cells, blocks, cell, protected, worn, erasable}
-use Rattle.chip.specs.Writes.{read_mode, needs_erase}
-use Rattle.chip.specs.Times.{burnt, spoils, erased, ended, due, lowered, step_by, step, steps, with_clock, tick, passed}
+use Rattle.chip.specs.Flash.{Flash}
+use Rattle.chip.proofs.Updates.{with_state}
+use Rattle.chip.specs.Times.{erased, ended, due, lowered, step_by, step, steps, with_clock, tick, passed}
 
 pub steps_split : (a b : ℕ) (f : Flash) → steps (a + b) f ≡ steps b (steps a f)
 unfolding steps
@@ -35,16 +34,16 @@ still (suc n) f e = let s : step f ≡ f = rw e refl in rw s (still n f e)
 
 lowered_zero : (s : State) → lowered 0 s ≡ s
 lowered_zero (Ready m p) = refl
-lowered_zero (Programming p) = ap (λ (n : ℕ). Programming (record { address = p.address; byte = p.byte; left = n; toggle = p.toggle })) (omega arith)
-lowered_zero (Erasing e) = ap (λ (n : ℕ). Erasing (record { phase = e.phase; selected = e.selected; left = n; toggle = e.toggle })) (omega arith)
+lowered_zero (Programming p) = ap (λ (n : ℕ). Programming (record p { left = n })) (omega arith)
+lowered_zero (Erasing e) = ap (λ (n : ℕ). Erasing (record e { left = n })) (omega arith)
 lowered_zero (Suspending e w) = ap (Suspending e) (omega arith)
 lowered_zero (Suspended e) = refl
 lowered_zero (Failed b t) = refl
 
 lowered_more : (n : ℕ) (s : State) → lowered 1 (lowered n s) ≡ lowered (suc n) s
 lowered_more n (Ready m p) = refl
-lowered_more n (Programming p) = ap (λ (n : ℕ). Programming (record { address = p.address; byte = p.byte; left = n; toggle = p.toggle })) (omega arith)
-lowered_more n (Erasing e) = ap (λ (n : ℕ). Erasing (record { phase = e.phase; selected = e.selected; left = n; toggle = e.toggle })) (omega arith)
+lowered_more n (Programming p) = ap (λ (n : ℕ). Programming (record p { left = n })) (omega arith)
+lowered_more n (Erasing e) = ap (λ (n : ℕ). Erasing (record e { left = n })) (omega arith)
 lowered_more n (Suspending e w) = ap (Suspending e) (omega arith)
 lowered_more n (Suspended e) = refl
 lowered_more n (Failed b t) = refl
@@ -102,19 +101,12 @@ clock_cond false f g c = refl
 
 ended_clock : (f : Flash) (s : State) (c : ℕ) → ended (with_clock f c) s ≡ with_clock (ended f s) c
 ended_clock f (Ready m p) c = refl
-ended_clock f (Programming p) c =
-    let a : Flash = with_state f read_mode in
-    let b : Flash = with_state f (Failed p.byte p.toggle) in
-    let d : Flash = with_cells f (burnt f p.address p.byte) (cond (needs_erase (cell f p.address) p.byte) (Failed p.byte p.toggle) read_mode) in
-    ap (λ (x : Flash). cond (protected f p.address) (with_clock a c) x) (clock_cond (worn f p.address) b d c)
-    ∙ clock_cond (protected f p.address) a (cond (worn f p.address) b d) c
+ended_clock f (Programming p) c = refl
 ended_clock f (Erasing e) c = by_phase e.phase
   where
     by_phase : (p : Phase) → erased (with_clock f c) e p ≡ with_clock (erased f e p) c
     by_phase Window = refl
-    by_phase Begun =
-        clock_cond (spoils f e.selected) (with_state f (Failed 0xFF e.toggle))
-        (with_cells f (filled (blocks f) (erasable f e.selected) 0xFF f.cells) read_mode) c
+    by_phase Begun = refl
 ended_clock f (Suspending e w) c = refl
 ended_clock f (Suspended e) c = refl
 ended_clock f (Failed b t) c = refl

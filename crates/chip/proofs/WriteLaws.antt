@@ -1,20 +1,25 @@
 -- The laws of the write and the read cycle.
-use Rattle.std.proofs.Common.{◌≡◌, ℕ, ◌-◌, ◌%◌, Bool, true, false, cond, ◌&&◌, eqb, sym, refl, ap, ◌∙◌, subst, inl, inr}
-use lib.Bits.{bit_or}
-use Rattle.std.proofs.lemmas.Bool.{ne_eqb, eqb-true, and_parts, cases_Bool}
-use Rattle.chip.specs.declared.state.Mode.{Mode}
-use Rattle.chip.specs.declared.state.Mode.TheVariants.{Read}
-use Rattle.chip.specs.declared.state.Place.{Place}
-use Rattle.chip.specs.declared.state.Place.TheVariants.{Start, Second, Command, Data, EraseStart, EraseSecond, EraseBlock}
-use Rattle.chip.specs.declared.state.Decision.TheVariants.{Enter, GiveUp}
+use Rattle.std.proofs.Common.{◌≡◌, ℕ, ◌-◌, Bool, true, false, cond, ◌&&◌, eqb, sym, refl, ap, ◌∙◌, subst, inl, inr}
+use Rattle.geometry.specs.declared.datasheet.Commands.{Commands}
+use Rattle.geometry.specs.Sets.{union}
+use Rattle.geometry.specs.Sheets.{low_bits}
+use Rattle.flash.specs.Limits.{window}
+use Rattle.std.proofs.lemmas.Bool.{ne_eqb, eq-eqb, eqb-true, and_parts, cases_Bool}
+use Rattle.flash.specs.declared.sequence.Mode.{Mode}
+use Rattle.flash.specs.declared.sequence.Mode.TheVariants.{Read, Id}
+use Rattle.flash.specs.declared.sequence.Place.{Place}
+use Rattle.flash.specs.declared.sequence.Place.TheVariants.{Start, Second, Command, Data, EraseStart, EraseSecond, EraseBlock}
+use Rattle.flash.specs.declared.sequence.Decision.{Decision}
+use Rattle.flash.specs.declared.sequence.Decision.TheVariants.{Next, Enter, GiveUp}
 use Rattle.chip.specs.declared.state.Phase.{Phase}
 use Rattle.chip.specs.declared.state.Phase.TheVariants.{Window, Erasing as Begun}
 use Rattle.chip.specs.declared.state.Erase.{Erase}
 use Rattle.chip.specs.declared.state.State.{State}
 use Rattle.chip.specs.declared.state.State.TheVariants.{Ready, Erasing, Failed}
-use Rattle.chip.specs.Commands.{decided}
-use Rattle.chip.specs.Flash.{Flash, with_state, inside}
-use Rattle.chip.specs.Writes.{read_mode, block_mask, obeyed, interrupted, heeded, written}
+use Rattle.flash.specs.Sequences.{decided}
+use Rattle.chip.specs.Flash.{Flash, commands, inside}
+use Rattle.chip.proofs.Updates.{with_state}
+use Rattle.chip.specs.Writes.{read_mode, block_alone, obeyed, interrupted, heeded, written}
 use Rattle.chip.specs.Reads.{flipped, seen}
 use Rattle.chip.specs.Times.{steps, passed, erase_time, with_clock}
 use Rattle.chip.specs.Laws.{Fits, first_write, second_write, to_identify, to_program, any_byte, to_erase, third_write, fourth_write, in_block, unlocked, First, SecondAddress, WriteLaws, ReadLaws}
@@ -41,57 +46,85 @@ not_both low c b k n =
     ]
 
 -- what does not fit is given up
-gives_up : (place : Place) (a b : ℕ) → (Fits place a b → ⊥) → (b ≡ 0xF0 → ⊥) → decided place (a % 32768) b ≡ GiveUp
-gives_up Start a b n r =
-    rw (ne_eqb b 0xF0 r, not_both (a % 32768) 0x5555 b 0xAA (λ e k. n (subst (Fits Start a) (sym k) (first_write a e))))
-gives_up Second a b n r =
-    rw (ne_eqb b 0xF0 r, not_both (a % 32768) 0x2AAA b 0x55 (λ e k. n (subst (Fits Second a) (sym k) (second_write a e))))
-gives_up Command a b n r =
+gives_up : (c : Commands) (place : Place) (a b : ℕ) → (Fits c place a b → ⊥) → (b ≡ 0xF0 → ⊥) → decided c place (low_bits c a) b ≡ GiveUp
+gives_up c Start a b n r =
+    rw (ne_eqb b 0xF0 r, not_both (low_bits c a) c.first b 0xAA (λ e k. n (subst (Fits c Start a) (sym k) (first_write a e))))
+gives_up c Second a b n r =
+    rw (ne_eqb b 0xF0 r, not_both (low_bits c a) c.second b 0x55 (λ e k. n (subst (Fits c Second a) (sym k) (second_write a e))))
+gives_up c Command a b n r =
     rw (
       ne_eqb b 0xF0 r,
-      not_both (a % 32768) 0x5555 b 0x90 (λ e k. n (subst (Fits Command a) (sym k) (to_identify a e))),
-      not_both (a % 32768) 0x5555 b 0xA0 (λ e k. n (subst (Fits Command a) (sym k) (to_program a e))),
-      not_both (a % 32768) 0x5555 b 0x80 (λ e k. n (subst (Fits Command a) (sym k) (to_erase a e))),
+      not_both (low_bits c a) c.first b 0x90 (λ e k. n (subst (Fits c Command a) (sym k) (to_identify a e))),
+      not_both (low_bits c a) c.first b 0xA0 (λ e k. n (subst (Fits c Command a) (sym k) (to_program a e))),
+      not_both (low_bits c a) c.first b 0x80 (λ e k. n (subst (Fits c Command a) (sym k) (to_erase a e))),
     )
-gives_up Data a b n r = absurd (n (any_byte a b))
-gives_up EraseStart a b n r =
-    rw (ne_eqb b 0xF0 r, not_both (a % 32768) 0x5555 b 0xAA (λ e k. n (subst (Fits EraseStart a) (sym k) (third_write a e))))
-gives_up EraseSecond a b n r =
-    rw (ne_eqb b 0xF0 r, not_both (a % 32768) 0x2AAA b 0x55 (λ e k. n (subst (Fits EraseSecond a) (sym k) (fourth_write a e))))
-gives_up EraseBlock a b n r =
-    rw (ne_eqb b 0xF0 r, ne_eqb b 0x30 (λ k. n (subst (Fits EraseBlock a) (sym k) (in_block a))))
+gives_up c Data a b n r = absurd (n (any_byte a b))
+gives_up c EraseStart a b n r =
+    rw (ne_eqb b 0xF0 r, not_both (low_bits c a) c.first b 0xAA (λ e k. n (subst (Fits c EraseStart a) (sym k) (third_write a e))))
+gives_up c EraseSecond a b n r =
+    rw (ne_eqb b 0xF0 r, not_both (low_bits c a) c.second b 0x55 (λ e k. n (subst (Fits c EraseSecond a) (sym k) (fourth_write a e))))
+gives_up c EraseBlock a b n r =
+    rw (ne_eqb b 0xF0 r, ne_eqb b 0x30 (λ k. n (subst (Fits c EraseBlock a) (sym k) (in_block a))))
 
-resets : (place : Place) (low : ℕ) → (place ≡ Data → ⊥) → decided place low 0xF0 ≡ Enter Read
-resets Start low n = refl
-resets Second low n = refl
-resets Command low n = refl
-resets Data low n = absurd (n refl)
-resets EraseStart low n = refl
-resets EraseSecond low n = refl
-resets EraseBlock low n = refl
+resets : (c : Commands) (place : Place) (low : ℕ) → (place ≡ Data → ⊥) → decided c place low 0xF0 ≡ Enter Read
+resets c Start low n = refl
+resets c Second low n = refl
+resets c Command low n = refl
+resets c Data low n = absurd (n refl)
+resets c EraseStart low n = refl
+resets c EraseSecond low n = refl
+resets c EraseBlock low n = refl
 
 -- A write at a command address.
-command : (f : Flash) (mode : Mode) (place : Place) → f.state ≡ Ready mode place → (a b c : ℕ) → inside f a ≡ true → a % 32768 ≡ c
-    → written f a b ≡ with_state f (obeyed f mode a b (decided place c b))
-command f mode place s a b c i e =
-    write_in f (Ready mode place) s a b i ∙ ap (λ (low : ℕ). with_state f (obeyed f mode a b (decided place low b))) e
+command : (f : Flash) (mode : Mode) (place : Place) → f.state ≡ Ready mode place → (a b low : ℕ) → inside f a ≡ true → low_bits (commands f) a ≡ low
+    → {d : Decision} → decided (commands f) place low b ≡ d → written f a b ≡ with_state f (obeyed f mode a b d)
+command f mode place s a b low i l e =
+    write_in f (Ready mode place) s a b i
+    ∙ ap (λ (n : ℕ). with_state f (obeyed f mode a b (decided (commands f) place n b))) l
+    ∙ ap (λ (d : Decision). with_state f (obeyed f mode a b d)) e
+
+same : (n : ℕ) → eqb n n ≡ true
+same n = eq-eqb n n refl
+
+-- The writes that fit, at the command addresses themselves.
+to_second : (c : Commands) → decided c Start c.first 0xAA ≡ Next Second
+to_second c = rw (same c.first)
+
+to_command : (c : Commands) → decided c Second c.second 0x55 ≡ Next Command
+to_command c = rw (same c.second)
+
+to_id : (c : Commands) → decided c Command c.first 0x90 ≡ Enter Id
+to_id c = rw (same c.first)
+
+to_data : (c : Commands) → decided c Command c.first 0xA0 ≡ Next Data
+to_data c = rw (same c.first)
+
+to_erase_start : (c : Commands) → decided c Command c.first 0x80 ≡ Next EraseStart
+to_erase_start c = rw (same c.first)
+
+to_erase_second : (c : Commands) → decided c EraseStart c.first 0xAA ≡ Next EraseSecond
+to_erase_second c = rw (same c.first)
+
+to_erase_block : (c : Commands) → decided c EraseSecond c.second 0x55 ≡ Next EraseBlock
+to_erase_block c = rw (same c.second)
 
 pub unlock : (f : Flash) (mode : Mode) → f.state ≡ Ready mode Start → (x y : ℕ) → First f x → SecondAddress f y
     → unlocked f x y ≡ with_state f (Ready mode Command)
 unlock f mode s x y p q =
-    ap (λ (g : Flash). written g y 0x55) (command f mode Start s x 0xAA 0x5555 p.0 p.1)
-    ∙ command (with_state f (Ready mode Second)) mode Second refl y 0x55 0x2AAA q.0 q.1
+    ap (λ (g : Flash). written g y 0x55) (command f mode Start s x 0xAA _ p.0 p.1 (to_second (commands f)))
+    ∙ command (with_state f (Ready mode Second)) mode Second refl y 0x55 _ q.0 q.1 (to_command (commands f))
 
 -- the command after the two unlocking writes
 pub commanded : (f : Flash) (mode : Mode) → f.state ≡ Ready mode Start → (x y z b : ℕ) → First f x → SecondAddress f y → First f z
-    → written (unlocked f x y) z b ≡ with_state f (obeyed f mode z b (decided Command 0x5555 b))
-commanded f mode s x y z b p q r =
+    → {d : Decision} → decided (commands f) Command (commands f).first b ≡ d
+    → written (unlocked f x y) z b ≡ with_state f (obeyed f mode z b d)
+commanded f mode s x y z b p q r e =
     ap (λ (g : Flash). written g z b) (unlock f mode s x y p q)
-    ∙ command (with_state f (Ready mode Command)) mode Command refl z b 0x5555 r.0 r.1
+    ∙ command (with_state f (Ready mode Command)) mode Command refl z b _ r.0 r.1 e
 
 -- 30h in the window: one block more, and the window from its beginning.
 reopened : Flash → Erase → ℕ → Erase
-reopened f e a = record { phase = Window; selected = bit_or e.selected (block_mask f a); left = 50; toggle = e.toggle }
+reopened f e a = record { phase = Window; selected = union e.selected (block_alone f a); left = window; toggle = e.toggle }
 
 adds : (f : Flash) (e : Erase) → f.state ≡ Erasing e → e.phase ≡ Window → (a : ℕ) → inside f a ≡ true
     → written f a 0x30 ≡ with_state f (Erasing (reopened f e a))
@@ -108,29 +141,29 @@ write_laws = record {
   no_cell = λ f a b. same_cells (inside f a) f (heeded f f.state a b);
   no_time = λ f a b. same_clock (inside f a) f (heeded f f.state a b);
   given_up = λ f mode place s a b i n r.
-      write_in f (Ready mode place) s a b i ∙ ap (λ d. with_state f (obeyed f mode a b d)) (gives_up place a b n r);
+      write_in f (Ready mode place) s a b i ∙ ap (λ d. with_state f (obeyed f mode a b d)) (gives_up (commands f) place a b n r);
   back_to_read = λ f mode place s a i n.
-      write_in f (Ready mode place) s a 0xF0 i ∙ ap (λ d. with_state f (obeyed f mode a 0xF0 d)) (resets place (a % 32768) n);
-  reads = λ f mode s x y z p q r. commanded f mode s x y z 0xF0 p q r;
-  identifies = λ f mode s x y z p q r. commanded f mode s x y z 0x90 p q r;
+      write_in f (Ready mode place) s a 0xF0 i ∙ ap (λ d. with_state f (obeyed f mode a 0xF0 d)) (resets (commands f) place (low_bits (commands f) a) n);
+  reads = λ f mode s x y z p q r. commanded f mode s x y z 0xF0 p q r refl;
+  identifies = λ f mode s x y z p q r. commanded f mode s x y z 0x90 p q r (to_id (commands f));
   programs = λ f mode s x y z a b p q r i.
-      ap (λ (g : Flash). written g a b) (commanded f mode s x y z 0xA0 p q r)
+      ap (λ (g : Flash). written g a b) (commanded f mode s x y z 0xA0 p q r (to_data (commands f)))
       ∙ write_in (with_state f (Ready mode Data)) (Ready mode Data) refl a b i;
   erases = λ f mode s x y z u v a p q r t w i.
-      ap (λ (g : Flash). written (unlocked g u v) a 0x30) (commanded f mode s x y z 0x80 p q r)
-      ∙ ap (λ (g : Flash). written (written g v 0x55) a 0x30) (command (with_state f (Ready mode EraseStart)) mode EraseStart refl u 0xAA 0x5555 t.0 t.1)
-      ∙ ap (λ (g : Flash). written g a 0x30) (command (with_state f (Ready mode EraseSecond)) mode EraseSecond refl v 0x55 0x2AAA w.0 w.1)
+      ap (λ (g : Flash). written (unlocked g u v) a 0x30) (commanded f mode s x y z 0x80 p q r (to_erase_start (commands f)))
+      ∙ ap (λ (g : Flash). written (written g v 0x55) a 0x30) (command (with_state f (Ready mode EraseStart)) mode EraseStart refl u 0xAA _ t.0 t.1 (to_erase_second (commands f)))
+      ∙ ap (λ (g : Flash). written g a 0x30) (command (with_state f (Ready mode EraseSecond)) mode EraseSecond refl v 0x55 _ w.0 w.1 (to_erase_block (commands f)))
       ∙ write_in (with_state f (Ready mode EraseBlock)) (Ready mode EraseBlock) refl a 0x30 i;
   window = λ f e s w a i n h.
       let g : Flash = with_state f (Erasing (reopened f e a)) in (
-        record { phase = Window; selected = (reopened f e a).selected; left = 50 - n; toggle = e.toggle },
-        ap (λ (x : Flash). (passed n x).state) (adds f e s w a i) ∙ state_after n g _ (until n 50 g refl h),
+        record { phase = Window; selected = (reopened f e a).selected; left = window - n; toggle = e.toggle },
+        ap (λ (x : Flash). (passed n x).state) (adds f e s w a i) ∙ state_after n g _ (until n window g refl h),
         refl,
       );
   begins = λ f e s w a i.
       let g : Flash = with_state f (Erasing (reopened f e a)) in (
         record { phase = Begun; selected = (reopened f e a).selected; left = erase_time f (reopened f e a).selected; toggle = e.toggle },
-        ap (λ (x : Flash). (passed 50 x).state) (adds f e s w a i) ∙ state_after 50 g _ (over 50 g refl),
+        ap (λ (x : Flash). (passed window x).state) (adds f e s w a i) ∙ state_after window g _ (over window g refl),
         refl,
         refl,
       );

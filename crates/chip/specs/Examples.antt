@@ -2,6 +2,8 @@
 -- block and 15 to suspend. Block 1 begins at 400h and block 2 at 600h.
 use Rattle.std.specs.Prelude.{◌≡◌, ℕ, List, [], ◌∷◌, ◌++◌, replicate, Ok, Err, Result}
 use Rattle.fault.specs.declared.faults.ChipFault.{ChipFault}
+use Rattle.geometry.specs.declared.kinds.TheConstants.{BENCH}
+use Rattle.geometry.specs.Sets.{none}
 use Rattle.chip.specs.Flash.{Flash}
 use Rattle.chip.specs.Making.{made}
 use Rattle.chip.specs.Writes.{written}
@@ -27,7 +29,7 @@ outcome f (wait n ∷ cycles) = outcome (after n f) cycles
 
 abbrev pub bench_chip : Flash
 bench_chip =
-    made (record { kind = 2; program = 16; erase = 1000; suspend = 15; protected = 0; worn = 0 }) (replicate 32768 0xFF)
+    made (record { kind = BENCH; program = 16; erase = 1000; suspend = 15; protected = none; worn = none }) (replicate 32768 0xFF)
 
 abbrev pub unlock : List Cycle
 unlock = write 0x5555 0xAA ∷ write 0x2AAA 0x55 ∷ []

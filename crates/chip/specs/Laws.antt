@@ -1,19 +1,22 @@
 -- What holds of the chip whatever it is doing, in the words of the workshop. The calls' contracts name these laws; they
 -- speak of the definitions that the same contracts use.
 use Rattle.std.specs.Prelude.{◌≡◌, ℕ, ◌+◌, ◌%◌, ◌<◌, Bool, true, false, ◌||◌, length, ◌≢◌}
-use Rattle.geometry.specs.Blocks.{bit}
+use Rattle.geometry.specs.declared.datasheet.Commands.{Commands}
+use Rattle.geometry.specs.Sets.{bit}
+use Rattle.geometry.specs.Sheets.{low_bits}
+use Rattle.flash.specs.Limits.{window as open_for}
 use Rattle.chip.specs.declared.chip.Chip.{Chip}
-use Rattle.chip.specs.declared.state.Mode.{Mode}
-use Rattle.chip.specs.declared.state.Mode.TheVariants.{Id}
-use Rattle.chip.specs.declared.state.Place.{Place}
-use Rattle.chip.specs.declared.state.Place.TheVariants.{Start, Second, Command, Data, EraseStart, EraseSecond, EraseBlock}
+use Rattle.flash.specs.declared.sequence.Mode.{Mode}
+use Rattle.flash.specs.declared.sequence.Mode.TheVariants.{Id}
+use Rattle.flash.specs.declared.sequence.Place.{Place}
+use Rattle.flash.specs.declared.sequence.Place.TheVariants.{Start, Second, Command, Data, EraseStart, EraseSecond, EraseBlock}
 use Rattle.chip.specs.declared.state.Phase.TheVariants.{Window, Erasing as Begun}
 use Rattle.chip.specs.declared.state.Erase.{Erase}
 use Rattle.chip.specs.declared.state.State.{State}
 use Rattle.chip.specs.declared.state.State.TheVariants.{Ready, Programming, Erasing, Suspending, Suspended, Failed}
 use Rattle.chip.specs.Setups.{in_limits}
-use Rattle.chip.specs.Flash.{Flash, view, with_state, size, inside, cell, protected, worn}
-use Rattle.chip.specs.Writes.{read_mode, program_time, block_mask, written}
+use Rattle.chip.specs.Flash.{Flash, view, size, commands, inside, cell, protected, worn}
+use Rattle.chip.specs.Writes.{read_mode, program_time, block_alone, written}
 use Rattle.chip.specs.Reads.{seen}
 use Rattle.chip.specs.Times.{erase_time, tick, passed}
 use Rattle.chip.specs.Resets.{after_reset}
@@ -44,29 +47,29 @@ abbrev pub OnlyClears : (Flash → Flash) → Type 0
 OnlyClears g =
     (f : Flash) → in_erase f.state ≡ false → (a b : ℕ) → bit (cell (g f) a) b ≡ true → bit (cell f a) b ≡ true
 
--- The write that comes next in a sequence. Command addresses are compared in their low fifteen bits.
-pub data Fits : Place → ℕ → ℕ → Type 0 where
-  first_write : (a : ℕ) → a % 32768 ≡ 0x5555 → Fits Start a 0xAA
-  second_write : (a : ℕ) → a % 32768 ≡ 0x2AAA → Fits Second a 0x55
-  to_read : (a : ℕ) → a % 32768 ≡ 0x5555 → Fits Command a 0xF0
-  to_identify : (a : ℕ) → a % 32768 ≡ 0x5555 → Fits Command a 0x90
-  to_program : (a : ℕ) → a % 32768 ≡ 0x5555 → Fits Command a 0xA0
-  any_byte : (a b : ℕ) → Fits Data a b
-  to_erase : (a : ℕ) → a % 32768 ≡ 0x5555 → Fits Command a 0x80
-  third_write : (a : ℕ) → a % 32768 ≡ 0x5555 → Fits EraseStart a 0xAA
-  fourth_write : (a : ℕ) → a % 32768 ≡ 0x2AAA → Fits EraseSecond a 0x55
-  in_block : (a : ℕ) → Fits EraseBlock a 0x30
+-- The write that comes next in a sequence, where the chip takes its commands at c's addresses: command addresses are compared in the low bits that count.
+pub data Fits (c : Commands) : Place → ℕ → ℕ → Type 0 where
+  first_write : (a : ℕ) → low_bits c a ≡ c.first → Fits c Start a 0xAA
+  second_write : (a : ℕ) → low_bits c a ≡ c.second → Fits c Second a 0x55
+  to_read : (a : ℕ) → low_bits c a ≡ c.first → Fits c Command a 0xF0
+  to_identify : (a : ℕ) → low_bits c a ≡ c.first → Fits c Command a 0x90
+  to_program : (a : ℕ) → low_bits c a ≡ c.first → Fits c Command a 0xA0
+  any_byte : (a b : ℕ) → Fits c Data a b
+  to_erase : (a : ℕ) → low_bits c a ≡ c.first → Fits c Command a 0x80
+  third_write : (a : ℕ) → low_bits c a ≡ c.first → Fits c EraseStart a 0xAA
+  fourth_write : (a : ℕ) → low_bits c a ≡ c.second → Fits c EraseSecond a 0x55
+  in_block : (a : ℕ) → Fits c EraseBlock a 0x30
 
 -- Two writes in a row at the two command addresses: AAh and 55h.
 abbrev pub unlocked : Flash → ℕ → ℕ → Flash
 unlocked f x y = written (written f x 0xAA) y 0x55
 
--- an address that means 5555h, or 2AAAh, to the chip
+-- an address that means the first, or the second, command address to the chip
 abbrev pub First : Flash → ℕ → Type 0
-First f a = (inside f a ≡ true) × (a % 32768 ≡ 0x5555)
+First f a = (inside f a ≡ true) × (low_bits (commands f) a ≡ (commands f).first)
 
 abbrev pub SecondAddress : Flash → ℕ → Type 0
-SecondAddress f a = (inside f a ≡ true) × (a % 32768 ≡ 0x2AAA)
+SecondAddress f a = (inside f a ≡ true) × (low_bits (commands f) a ≡ (commands f).second)
 
 pub record WriteLaws : Type 0 where
   -- A write changes no cell: an operation that it starts changes them when it ends.
@@ -75,36 +78,36 @@ pub record WriteLaws : Type 0 where
   pub no_time : (f : Flash) (a b : ℕ) → (written f a b).clock ≡ f.clock
   -- A write that fits no next place in its sequence gives the sequence up, and leaves the mode that it began in.
   pub given_up : (f : Flash) (mode : Mode) (place : Place) → f.state ≡ Ready mode place
-      → (a b : ℕ) → inside f a ≡ true → (Fits place a b → ⊥) → (b ≢ 0xF0) → written f a b ≡ with_state f (Ready mode Start)
+      → (a b : ℕ) → inside f a ≡ true → (Fits (commands f) place a b → ⊥) → (b ≢ 0xF0) → written f a b ≡ record f { state = Ready mode Start }
   -- F0h gives read mode, but as the byte to program.
   pub back_to_read : (f : Flash) (mode : Mode) (place : Place) → f.state ≡ Ready mode place
-      → (a : ℕ) → inside f a ≡ true → (place ≢ Data) → written f a 0xF0 ≡ with_state f read_mode
+      → (a : ℕ) → inside f a ≡ true → (place ≢ Data) → written f a 0xF0 ≡ record f { state = read_mode }
   -- The four sequences, whole, from either mode.
   pub reads : (f : Flash) (mode : Mode) → f.state ≡ Ready mode Start
       → (x y z : ℕ) → First f x → SecondAddress f y → First f z
-      → written (unlocked f x y) z 0xF0 ≡ with_state f read_mode
+      → written (unlocked f x y) z 0xF0 ≡ record f { state = read_mode }
   pub identifies : (f : Flash) (mode : Mode) → f.state ≡ Ready mode Start
       → (x y z : ℕ) → First f x → SecondAddress f y → First f z
-      → written (unlocked f x y) z 0x90 ≡ with_state f (Ready Id Start)
+      → written (unlocked f x y) z 0x90 ≡ record f { state = Ready Id Start }
   pub programs : (f : Flash) (mode : Mode) → f.state ≡ Ready mode Start
       → (x y z a b : ℕ) → First f x → SecondAddress f y → First f z → inside f a ≡ true
       → written (written (unlocked f x y) z 0xA0) a b
-      ≡ with_state f (Programming (record { address = a; byte = b; left = program_time f a b; toggle = false }))
+      ≡ record f { state = Programming (record { address = a; byte = b; left = program_time f a b; toggle = false }) }
   pub erases : (f : Flash) (mode : Mode) → f.state ≡ Ready mode Start
       → (x y z u v a : ℕ) → First f x → SecondAddress f y → First f z → First f u → SecondAddress f v → inside f a ≡ true
       → written (unlocked (written (unlocked f x y) z 0x80) u v) a 0x30
-      ≡ with_state f (Erasing (record { phase = Window; selected = block_mask f a; left = 50; toggle = false }))
+      ≡ record f { state = Erasing (record { phase = Window; selected = block_alone f a; left = open_for; toggle = false }) }
   -- The window runs from the last 30h: however much of it was left, 49 microseconds later it is still open,
   -- and 50 microseconds later the erasing has begun.
   pub window : (f : Flash) (e : Erase) → f.state ≡ Erasing e → e.phase ≡ Window → (a : ℕ) → inside f a ≡ true
-      → (n : ℕ) → n < 50 → (g : Erase) × ((passed n (written f a 0x30)).state ≡ Erasing g) × (g.phase ≡ Window)
+      → (n : ℕ) → n < open_for → (g : Erase) × ((passed n (written f a 0x30)).state ≡ Erasing g) × (g.phase ≡ Window)
   pub begins : (f : Flash) (e : Erase) → f.state ≡ Erasing e → e.phase ≡ Window → (a : ℕ) → inside f a ≡ true
-      → (g : Erase) × ((passed 50 (written f a 0x30)).state ≡ Erasing g) × (g.phase ≡ Begun) × (g.left ≡ erase_time f g.selected)
+      → (g : Erase) × ((passed open_for (written f a 0x30)).state ≡ Erasing g) × (g.phase ≡ Begun) × (g.left ≡ erase_time f g.selected)
   -- A failed chip heeds only F0h, which gives read mode.
   pub failed : (f : Flash) (byte : ℕ) (toggle : Bool) → f.state ≡ Failed byte toggle
       → (a b : ℕ) → (b ≢ 0xF0) → written f a b ≡ f
   pub mended : (f : Flash) (byte : ℕ) (toggle : Bool) → f.state ≡ Failed byte toggle
-      → (a : ℕ) → inside f a ≡ true → written f a 0xF0 ≡ with_state f read_mode
+      → (a : ℕ) → inside f a ≡ true → written f a 0xF0 ≡ record f { state = read_mode }
 
 pub record ReadLaws : Type 0 where
   -- A read changes no cell, and takes no time.

@@ -1,4 +1,3 @@
-pub mod Commands
 pub mod Examples
 pub mod Flash
 pub mod Laws

@@ -7,10 +7,7 @@ ghost use Rattle.chip.specs.Times.{waited, after};
 ghost use Rattle.chip.specs.Laws.{WriteLaws, ReadLaws, PassLaws};
 
 use crate::chip::Chip;
-use fault::{Cause, ChipFault};
-
-/// The longest time, in microseconds, that may pass in one call.
-pub const LONGEST: u32 = 1_000_000_000;
+use fault::{Cause, ChipFault, LONGEST};
 
 /// Refuses a time over the longest.
 pub fn short_enough(n: u32) -> Result<(), ChipFault>

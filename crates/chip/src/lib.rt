@@ -1,21 +1,21 @@
-//! A NOR flash chip as its bus sees it: write and read cycles, time, and the reset pin.
+//! A NOR flash chip of the family TC58FVT004, TC58FVB004 as its bus sees it: write and read cycles, time, and the reset pin.
 #![tactic(auto)]
 
 mod blocks;
 mod chip;
-mod commands;
 mod cycles;
 mod making;
+mod questions;
 mod reads;
 mod resets;
 mod setup;
 mod state;
 mod time;
+mod unmade;
 mod writes;
 
 pub use chip::Chip;
-pub use commands::{FIRST, SECOND};
-pub use cycles::{LONGEST, short_enough};
-pub use setup::{LONGEST_ERASE, LONGEST_PROGRAM, LONGEST_SUSPENSION, Setup};
-pub use state::{Decision, Erase, Mode, Phase, Place, Program, State};
-pub use writes::needs_erase;
+pub use cycles::short_enough;
+pub use setup::Setup;
+pub use state::{Erase, Phase, Program, State};
+pub use unmade::Unmade;

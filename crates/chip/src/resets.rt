@@ -1,37 +1,31 @@
 // The reset pin.
 ghost use Rattle.std.specs.Prelude.{◌≡◌};
-ghost use Rattle.chip.specs.Flash.{view, with_cells};
+ghost use Rattle.chip.specs.Flash.{view};
 ghost use Rattle.chip.specs.Resets.{broken_erase, broken, after_reset};
 ghost use Rattle.chip.specs.Laws.{ResetLaws};
 
-use crate::blocks::without;
 use crate::chip::Chip;
 use crate::state::{Erase, Phase, State};
 use crate::time::READ_MODE;
 
 impl Chip {
     // What breaking off an erase leaves.
+    #[tactic(auto, using(flash::proofs::Cells::length_after_broken_erase))]
     fn break_erase(&mut self, e: Erase)
-        ensures { view self.new ≡ with_cells (view self.old) (broken_erase (view self.old) e e.phase) self.old.state }
+        ensures { view self.new ≡ record (view self.old) { cells = broken_erase (view self.old) e e.phase } }
     {
         if e.phase == Phase::Erasing {
-            let sound = without(self.erasable(e.selected), self.setup.worn);
-            self.fill(sound, 0x00);
+            let ground = self.ground();
+            ground.break_erase(self.cells.as_mut_slice(), e.selected);
         }
     }
 
     // What breaking off whatever the chip is doing leaves.
     fn break_off(&mut self)
-        ensures { view self.new ≡ with_cells (view self.old) (broken (view self.old) self.old.state) self.old.state }
+        ensures { view self.new ≡ record (view self.old) { cells = broken (view self.old) self.old.state } }
     {
         match self.state {
-            State::Programming(p) => {
-                if !self.lies_in(self.setup.protected, p.address)
-                    && !self.lies_in(self.setup.worn, p.address)
-                {
-                    self.burn(p.address, p.byte);
-                }
-            }
+            State::Programming(p) => self.program(p),
             State::Erasing(e) | State::Suspending(e, _) | State::Suspended(e) => {
                 self.break_erase(e)
             }

@@ -1,47 +1,6 @@
 // What a chip is doing.
-
-/// What a read sees where the chip is not busy.
-#[derive(Clone, Copy, Debug, PartialEq, Eq)]
-pub enum Mode {
-    /// The cells.
-    Read,
-    /// The manufacturer's code, the device code and the protected blocks.
-    Id,
-}
-
-/// The place in a command sequence: which write comes next.
-#[derive(Clone, Copy, Debug, PartialEq, Eq)]
-pub enum Place {
-    /// No sequence has begun: AAh at 5555h begins one.
-    Start,
-    /// 55h at 2AAAh.
-    Second,
-    /// The command at 5555h.
-    Command,
-    /// The data to program, at its address.
-    Data,
-    /// After 80h: AAh at 5555h.
-    EraseStart,
-    /// After 80h: 55h at 2AAAh.
-    EraseSecond,
-    /// After 80h: 30h in the block to erase.
-    EraseBlock,
-}
-
-/// What a write of a sequence means.
-#[derive(Clone, Copy, Debug, PartialEq, Eq)]
-pub enum Decision {
-    /// The sequence goes on.
-    Next(Place),
-    /// The sequence ends in a mode.
-    Enter(Mode),
-    /// The write's data is programmed at its address.
-    Program,
-    /// The block of the write's address is erased.
-    Erase,
-    /// The write does not fit: the sequence is given up.
-    GiveUp,
-}
+use flash::{Mode, Place};
+use geometry::BlockSet;
 
 /// A byte that is being programmed.
 #[derive(Clone, Copy, Debug, PartialEq, Eq)]
@@ -67,8 +26,8 @@ pub enum Phase {
 #[derive(Clone, Copy, Debug, PartialEq, Eq)]
 pub struct Erase {
     pub phase: Phase,
-    /// The selected blocks, block b as bit b, protected ones too.
-    pub selected: u32,
+    /// The selected blocks, protected ones too.
+    pub selected: BlockSet,
     /// Microseconds until the end of the phase.
     pub left: u32,
     /// DQ6 of the next status read.

@@ -1,16 +1,17 @@
 // The passing of time, from the end of one state to the next.
 ghost use Rattle.std.specs.Prelude.{◌≡◌, ◌+◌, ◌%◌, ◌<◌};
-ghost use Rattle.geometry.specs.Blocks.{filled};
-ghost use Rattle.chip.specs.Flash.{view, with_cells, blocks};
-ghost use Rattle.chip.specs.Times.{burnt, programmed, spoils, erase_time, erased, ended, due, lowered, steps, with_clock};
+ghost use Rattle.flash.specs.Programs.{after_program};
+ghost use Rattle.flash.specs.Erases.{after_erase};
+ghost use Rattle.chip.specs.Flash.{view, ground_of};
+ghost use Rattle.chip.specs.Times.{programmed, erase_time, erased, ended, due, lowered, steps};
 
 use crate::chip::Chip;
-use crate::setup::LONGEST_ERASE;
-use crate::state::{Erase, Mode, Phase, Place, Program, State};
-use crate::writes::needs_erase;
+use crate::state::{Erase, Phase, Program, State};
+use flash::{Mode, Place};
+use geometry::BlockSet;
 
-// Microseconds that the erasing lasts where every selected block is protected.
-const REFUSED_ERASE: u32 = 50;
+// The byte that an erase is to leave in a cell.
+const ERASED: u8 = 0xFF;
 
 pub(crate) const READ_MODE: State = State::Ready(Mode::Read, Place::Start);
 
@@ -41,62 +42,42 @@ impl State {
 }
 
 impl Chip {
-    // The cell becomes cell AND byte.
-    pub(crate) fn burn(&mut self, address: u32, byte: u8)
-        ensures { view self.new ≡ with_cells (view self.old) (burnt (view self.old) address byte) self.old.state }
+    // Does to the cells what a program does.
+    #[tactic(auto, using(flash::proofs::Cells::length_after_program))]
+    pub(crate) fn program(&mut self, p: Program)
+        ensures { view self.new ≡ record (view self.old) { cells = after_program (ground_of (view self.old)) self.old.cells.items p.address p.byte } }
     {
-        if let Some(cell) = self.cells.get_mut(address as usize) {
-            *cell &= byte;
-        }
-    }
-
-    // The blocks of the mask become `byte` throughout.
-    #[tactic(auto, using(geometry::proofs::Filling::length_filled))]
-    pub(crate) fn fill(&mut self, mask: u32, byte: u8)
-        ensures { view self.new ≡ with_cells (view self.old) (filled (blocks (view self.old)) mask byte self.old.cells.items) self.old.state }
-    {
-        geometry::fill(self.setup.kind, self.cells.as_mut_slice(), mask, byte);
+        let ground = self.ground();
+        ground.program(self.cells.as_mut_slice(), p.address, p.byte);
     }
 
     fn end_program(&mut self, p: Program)
         ensures { view self.new ≡ programmed (view self.old) p }
     {
-        if self.lies_in(self.setup.protected, p.address) {
-            self.state = READ_MODE;
-        } else if self.lies_in(self.setup.worn, p.address) {
-            self.state = State::Failed(p.byte, p.toggle);
+        let fails = self
+            .ground()
+            .program_fails(self.cells.as_slice(), p.address, p.byte);
+        self.program(p);
+        self.state = if fails {
+            State::Failed(p.byte, p.toggle)
         } else {
-            let fails = needs_erase(self.cell(p.address), p.byte);
-            self.burn(p.address, p.byte);
-            self.state = if fails {
-                State::Failed(p.byte, p.toggle)
-            } else {
-                READ_MODE
-            };
-        }
+            READ_MODE
+        };
     }
 
-    // Whether one of the blocks that an erase works on is worn.
-    fn spoils(&self, selected: u32) -> bool
-        ensures { result ≡ spoils (view self.now) selected }
-    {
-        self.erasable(selected) & self.setup.worn != 0
-    }
-
-    fn erase_time(&self, selected: u32) -> u32
+    fn erase_time(&self, selected: BlockSet) -> u32
         ensures { result ≡ erase_time (view self.now) selected }
     {
-        let count = self.erasable(selected).count_ones();
-        let each = if self.spoils(selected) {
-            LONGEST_ERASE
-        } else {
-            self.setup.erase
-        };
-        if count == 0 {
-            REFUSED_ERASE
-        } else {
-            count * each
-        }
+        self.ground().erase_time(self.setup.erase, selected)
+    }
+
+    // Does to the cells what an erase has done at its end.
+    #[tactic(auto, using(flash::proofs::Cells::length_after_erase))]
+    fn erase(&mut self, selected: BlockSet)
+        ensures { view self.new ≡ record (view self.old) { cells = after_erase (ground_of (view self.old)) selected self.old.cells.items } }
+    {
+        let ground = self.ground();
+        ground.erase(self.cells.as_mut_slice(), selected);
     }
 
     fn end_erase(&mut self, e: Erase)
@@ -112,13 +93,13 @@ impl Chip {
                 });
             }
             Phase::Erasing => {
-                if self.spoils(e.selected) {
-                    self.state = State::Failed(0xFF, e.toggle);
+                let fails = self.ground().spoils(e.selected);
+                self.erase(e.selected);
+                self.state = if fails {
+                    State::Failed(ERASED, e.toggle)
                 } else {
-                    let mask = self.erasable(e.selected);
-                    self.fill(mask, 0xFF);
-                    self.state = READ_MODE;
-                }
+                    READ_MODE
+                };
             }
         }
     }
@@ -163,7 +144,7 @@ impl Chip {
 
     // Adds n microseconds to the count.
     pub(crate) fn count(&mut self, n: u32)
-        ensures { view self.new ≡ with_clock (view self.old) ((self.old.clock + n) % 4294967296) }
+        ensures { view self.new ≡ record (view self.old) { clock = (self.old.clock + n) % 4294967296 } }
     {
         self.clock = self.clock.wrapping_add(n);
     }

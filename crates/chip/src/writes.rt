@@ -1,43 +1,35 @@
 // The write cycle.
 ghost use Rattle.std.specs.Prelude.{◌≡◌};
 ghost use Rattle.chip.specs.Flash.{view};
-ghost use Rattle.chip.specs.Writes.{needs_erase, program_time, block_mask, obeyed, interrupted, heeded};
+ghost use Rattle.chip.specs.Writes.{program_time, block_alone, decision, obeyed, interrupted, heeded};
 
 use crate::chip::Chip;
-use crate::setup::LONGEST_PROGRAM;
-use crate::state::{Decision, Erase, Mode, Phase, Place, Program, State};
+use crate::state::{Erase, Phase, Program, State};
 use crate::time::READ_MODE;
-
-// Microseconds that more blocks may be added to an erase.
-const WINDOW: u32 = 50;
-// Microseconds that the chip is busy with a byte in a protected block.
-const REFUSED_PROGRAM: u32 = 3;
-
-/// Whether the byte has a 1 where the cell has a 0.
-pub fn needs_erase(old: u8, byte: u8) -> bool
-    ensures { result ≡ needs_erase old byte }
-{
-    old & byte != byte
-}
+use flash::{Decision, Mode, Place, WINDOW};
+use geometry::BlockSet;
 
 impl Chip {
     fn program_time(&self, address: u32, byte: u8) -> u32
         ensures { result ≡ program_time (view self.now) address byte }
     {
-        if self.lies_in(self.setup.protected, address) {
-            REFUSED_PROGRAM
-        } else if self.lies_in(self.setup.worn, address) || needs_erase(self.cell(address), byte) {
-            LONGEST_PROGRAM
-        } else {
-            self.setup.program
-        }
+        self.ground()
+            .program_time(self.setup.program, self.cells.as_slice(), address, byte)
     }
 
-    // The mask of the block that an address lies in.
-    fn block_mask(&self, address: u32) -> u32
-        ensures { result ≡ block_mask (view self.now) address }
+    // The block that an address lies in, as a set.
+    fn block_alone(&self, address: u32) -> BlockSet
+        ensures { result ≡ block_alone (view self.now) address }
     {
-        1u32 << geometry::block_at(self.setup.kind, address)
+        BlockSet::only(self.block_at(address))
+    }
+
+    // What a write means at a place of a sequence.
+    fn decide(&self, place: Place, address: u32, byte: u8) -> Decision
+        ensures { result ≡ decision (view self.now) place address byte }
+    {
+        let commands = self.sheet().commands;
+        place.decide(commands, commands.low_bits(address), byte)
     }
 
     // What the chip does after a write of a sequence that began in `mode`.
@@ -55,7 +47,7 @@ impl Chip {
             }),
             Decision::Erase => State::Erasing(Erase {
                 phase: Phase::Window,
-                selected: self.block_mask(address),
+                selected: self.block_alone(address),
                 left: WINDOW,
                 toggle: false,
             }),
@@ -71,7 +63,7 @@ impl Chip {
             (_, 0xB0) => State::Suspending(erase, self.setup.suspend),
             (Phase::Erasing, _) => State::Erasing(erase),
             (Phase::Window, 0x30) => State::Erasing(Erase {
-                selected: erase.selected | self.block_mask(address),
+                selected: erase.selected.union(self.block_alone(address)),
                 left: WINDOW, // counted from this 30h on
                 ..erase
             }),
@@ -84,12 +76,9 @@ impl Chip {
         ensures { result ≡ heeded (view self.now) self.now.state address byte }
     {
         match self.state {
-            State::Ready(mode, place) => self.obey(
-                mode,
-                address,
-                byte,
-                place.decide(address & 0x7FFF, byte),
-            ),
+            State::Ready(mode, place) => {
+                self.obey(mode, address, byte, self.decide(place, address, byte))
+            }
             State::Erasing(erase) => self.interrupt(erase, address, byte),
             State::Suspended(erase) if byte == 0x30 => State::Erasing(erase),
             State::Failed(_, _) if byte == 0xF0 => READ_MODE,

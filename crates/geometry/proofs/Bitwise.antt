@@ -1,13 +1,13 @@
--- Masks of blocks, bit by bit.
-use Rattle.std.proofs.Common.{◌≡◌, ℕ, zero, suc, ◌+◌, ◌-◌, ◌*◌, ◌/◌, ◌%◌, ◌^◌, ◌<◌, min, Bool, true, cond, not, ◌&&◌, eqb, ◌⊎◌, refl, ap, ◌∙◌, inl, inr, arith}
+-- Numbers, bit by bit.
+use Rattle.std.proofs.Common.{◌≡◌, ℕ, zero, suc, ◌+◌, ◌-◌, ◌*◌, ◌/◌, ◌%◌, ◌^◌, ◌<◌, min, Bool, true, cond, ◌&&◌, eqb, ◌⊎◌, sym, ap, ◌∙◌, inl, inr, arith}
 use Rattle.std.specs.Int.{bit_at}
-use lib.Bits.{bit_and, bit_xor}
+use lib.Bits.{bit_and}
 use lib.Count.{ones}
-use Rattle.std.proofs.lemmas.Bool.{and_parts, eqb-true, eq-eqb, ne_eqb, cases_lt, cases_eq}
-use Rattle.std.proofs.lemmas.Nat.{and_comm, field_of, mod-pow-add}
-use Rattle.std.proofs.lemmas.Nat.Bits.{bit_at-lt, bit_at_and, bit_at_xor, bit_at_ones, bit_at-pow_same, bit_at-pow_other, and_pow}
+use Rattle.std.proofs.lemmas.Bool.{and_parts, eq-eqb, ne_eqb, cases_lt, cases_eq}
+use Rattle.std.proofs.lemmas.Nat.{and_comm, field_of, mod-pow-add, ones_cat, pow_pos}
+use Rattle.std.proofs.lemmas.Nat.Bits.{bit_at-lt, bit_at_and, bit_at-pow_same, bit_at-pow_other, and_pow}
 use Rattle.std.proofs.lemmas.Bool.Decides.{nat_tests}
-use Rattle.geometry.specs.Blocks.{bit}
+use Rattle.geometry.specs.Sets.{bit}
 
 pub bit_of_and : (m n b : ℕ) → bit (bit_and m n) b ≡ (bit m b && bit n b)
 bit_of_and m n b = ap (λ (x : ℕ). eqb x 1) (bit_at_and m n b) ∙ both (bit_at m b) (bit_at n b) (bit_at-lt m b) (bit_at-lt n b)
@@ -29,15 +29,6 @@ at_below (suc n) p t b h =
     last : (n b : ℕ) → b < suc n → (b ≡ n) ⊎ (b < n)
     last n b h = elim (cases_lt b n) [ inl l ↦ inr l | inr g ↦ inl (omega arith) ]
 
--- the blocks that are not in a mask, out of blocks 0 to 10
-pub bit_not : (m b : ℕ) → b < 11 → bit (bit_xor m 0x7FF) b ≡ not (bit m b)
-bit_not m b h =
-    ap (λ (x : ℕ). eqb x 1) (bit_at_xor m 0x7FF b ∙ ap (λ (x : ℕ). (bit_at m b + x) % 2) (bit_at_ones 11 b h))
-    ∙ other (bit_at m b) (bit_at-lt m b)
-  where
-    other : (x : ℕ) → x < 2 → eqb ((x + 1) % 2) 1 ≡ not (eqb x 1)
-    other x k = grind (arith, nat_tests)
-
 -- The mask of one block.
 pub bit_one : (b c : ℕ) → bit (2 ^ b) c ≡ eqb c b
 bit_one b c =
@@ -54,9 +45,11 @@ and_one b x = and_comm (2 ^ b) x ∙ and_pow x b ∙ by (bit_at x b) (bit_at-lt 
     by (suc zero) h = omega arith
     by (suc (suc y)) h = absurd (omega arith)
 
-pub ones_one : (b : ℕ) → b < 11 → ones (2 ^ b) ≡ 1
+pub ones_one : (b : ℕ) → ones (2 ^ b) ≡ 1
 unfolding ones
-ones_one b h = eqb-true _ _ (at_below 11 (λ (i : ℕ). eqb (ones (2 ^ i)) 1) refl b h)
+ones_one b =
+    let e : 1 * 2 ^ b + 0 ≡ 2 ^ b = omega arith in
+    ap ones (sym e) ∙ ones_cat b 1 0 (pow_pos b)
 
 -- The low bits of a number are those of the whole.
 pub bit_low : (m n b : ℕ) → b < n → bit (m % 2 ^ n) b ≡ bit m b

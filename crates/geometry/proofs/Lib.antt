@@ -3,3 +3,4 @@ pub mod Placing
 pub mod Filling
 pub mod Wiping
 pub mod Equal
+pub mod Sets

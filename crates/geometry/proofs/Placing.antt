@@ -1,12 +1,13 @@
 -- Where the blocks of a row lie, and which block an address lies in.
-use Rattle.std.proofs.Common.{◌≡◌, ℕ, zero, suc, ◌+◌, ◌-◌, ◌<◌, ◌≤◌, true, false, ◌&&◌, eqb, ltb, leb, List, [], ◌∷◌, length, get_or, sym, refl, ap, ◌∙◌, inl, inr, add-one, arith, lit≤}
+use Rattle.std.proofs.Common.{◌≡◌, ℕ, zero, suc, ◌+◌, ◌-◌, ◌<◌, ◌≤◌, Bool, true, false, ◌&&◌, eqb, ltb, leb, List, [], ◌∷◌, length, get_or, sym, refl, ap, ◌∙◌, inl, inr, add-one, arith}
 use Rattle.std.specs.List.{position_or_len, position}
 use Rattle.std.specs.Option.{unwrap_or}
 use Rattle.std.proofs.lemmas.List.{length-map, get_or-map}
 use Rattle.std.proofs.lemmas.Bool.{lt-ltb, le-ltb, cases_lt, and_parts, eqb-true, false≢true, cond_both, cases_eq, cases_Bool, eq-eqb, ne_eqb, le-leb, leb-true, ltb-true}
 use Rattle.geometry.specs.declared.block.Block.{Block}
 use Rattle.geometry.specs.Blocks.{total, start_of, block_of}
-use Rattle.geometry.specs.Plans.{Plan, top, bottom, bench, dead, plan_of, starts_of, sizes_of, holds, contiguous, Contiguous, LaidOut}
+use Rattle.geometry.specs.Plans.{Plan, Named, dead, chips, plan_among, plan_of, starts_of, sizes_of, holds, contiguous, Contiguous, IsTable, LaidOut}
+use Rattle.geometry.specs.Rows.{Unbroken}
 
 -- Block b reaches from its start to its end, and holds no other address.
 pub block_is : (sizes : List ℕ) (k b : ℕ) → b < length sizes → start_of sizes b ≤ k → k < start_of sizes b + get_or sizes b 0
@@ -110,49 +111,69 @@ found (b ∷ bs) from end a t h =
           (ap (λ (n : ℕ). 1 + n) (found bs (from + b.size) end a parts.1 (omega arith)))
     ]
 
--- A table has a block for each size of the plan, with its start and its size.
+-- A table has a block for each size of the plan.
 pub table_long : (blocks : List Block) (sizes : List ℕ) → sizes_of blocks ≡ sizes → length blocks ≡ length sizes
 table_long blocks sizes w = sym (length-map blocks (λ (b : Block). b.size)) ∙ ap (λ (xs : List ℕ). length xs) w
 
-pub table_block : (p : Plan) (blocks : List Block) (b : ℕ) (none : Block) → Contiguous p → starts_of blocks ≡ p.starts → sizes_of blocks ≡ p.sizes
-    → b < length p.sizes → ((get_or blocks b none).start ≡ start_of p.sizes b) × ((get_or blocks b none).size ≡ get_or p.sizes b 0)
-table_block p blocks b none t s w l =
-    let h : b < length blocks = omega (arith, table_long blocks p.sizes w) in
-    let at : get_or p.starts b 0 ≡ start_of p.sizes b = omega (arith, table_start 0 p.starts p.sizes p.size t b l) in (
-      sym (get_or-map (λ (x : Block). x.start) blocks b none 0 h) ∙ ap (λ (xs : List ℕ). get_or xs b 0) s ∙ at,
-      sym (get_or-map (λ (x : Block). x.size) blocks b none 0 h) ∙ ap (λ (xs : List ℕ). get_or xs b 0) w,
+-- The table of a plan is a row.
+pub unbroken : (p : Plan) (blocks : List Block) → Contiguous p → IsTable p blocks → Unbroken blocks
+unbroken p blocks t is =
+    rw (is.starts, is.sizes)
+    (ap (contiguous 0 p.starts p.sizes) (omega (arith, table_end 0 p.starts p.sizes p.size t)) ∙ t)
+
+-- Block b of a row begins where the blocks before it end.
+pub row_block : (blocks : List Block) (b : ℕ) (none : Block) → Unbroken blocks → b < length blocks
+    → ((get_or blocks b none).start ≡ start_of (sizes_of blocks) b) × ((get_or blocks b none).size ≡ get_or (sizes_of blocks) b 0)
+row_block blocks b none t h =
+    let l : b < length (sizes_of blocks) = omega (arith, table_long blocks (sizes_of blocks) refl) in
+    let at : get_or (starts_of blocks) b 0 ≡ start_of (sizes_of blocks) b =
+    omega (arith, table_start 0 (starts_of blocks) (sizes_of blocks) (total (sizes_of blocks)) t b l) in (
+      sym (get_or-map (λ (x : Block). x.start) blocks b none 0 h) ∙ at,
+      sym (get_or-map (λ (x : Block). x.size) blocks b none 0 h),
     )
 
-pub holder_is : (p : Plan) (blocks : List Block) (a n : ℕ) → Contiguous p → starts_of blocks ≡ p.starts → sizes_of blocks ≡ p.sizes
-    → n ≡ length p.sizes → unwrap_or (position (holds a) blocks) n ≡ block_of p.sizes a
-holder_is p blocks a n t s w e =
-    let f : position_or_len (holds a) blocks ≡ block_of (sizes_of blocks) (a - 0) = found blocks 0 p.size a (rw (s, w) t) (omega arith) in
+pub holder_is : (blocks : List Block) (a n : ℕ) → Unbroken blocks → n ≡ length blocks
+    → unwrap_or (position (holds a) blocks) n ≡ block_of (sizes_of blocks) a
+holder_is blocks a n t e =
     let z : a - 0 ≡ a = omega arith in
-    let g : position_or_len (holds a) blocks ≡ block_of p.sizes a = rw (w, z) at f in
-    let l : length blocks ≡ length p.sizes = table_long blocks p.sizes w in
+    let g : position_or_len (holds a) blocks ≡ block_of (sizes_of blocks) a = rw z at (found blocks 0 (total (sizes_of blocks)) a t (omega arith)) in
+    let l : length blocks ≡ length (sizes_of blocks) = table_long blocks (sizes_of blocks) refl in
     elim (cases_lt (position_or_len (holds a) blocks) (length blocks)) [
       | inl h ↦ rw (lt-ltb (position_or_len (holds a) blocks) (length blocks) h) g
-      | inr h ↦ rw (le-ltb (position_or_len (holds a) blocks) (length blocks) h) (omega (arith, block_le p.sizes a))
+      | inr h ↦ rw (le-ltb (position_or_len (holds a) blocks) (length blocks) h) (omega (arith, block_le (sizes_of blocks) a))
     ]
 
--- What holds of each of the four plans holds of the plan of every number.
-pub every_plan : (P : Plan → Type 0) → P top → P bottom → P bench → P dead → (kind : ℕ) → P (plan_of kind)
-every_plan P t b n d kind =
-    cond_both (eqb kind 0) top _ P (λ _. t)
-    (λ _. cond_both (eqb kind 1) bottom _ P (λ _. b) (λ _. cond_both (eqb kind 2) bench dead P (λ _. n) (λ _. d)))
+-- A test that the plan of each chip passes, and that of no chip.
+abbrev pub each_plan : (Plan → Bool) → List Named → Bool
+each_plan test [] = test dead
+each_plan test (named ∷ rest) = test named.plan && each_plan test rest
+
+-- What each plan passes, the plan of every number passes.
+plan_passes : (test : Plan → Bool) (kind : ℕ) (all : List Named) → each_plan test all ≡ true → test (plan_among kind all) ≡ true
+plan_passes test kind [] t = t
+plan_passes test kind (named ∷ rest) t =
+    let parts = and_parts (test named.plan) (each_plan test rest) t in
+    cond_both (eqb kind named.kind) named.plan (plan_among kind rest) (λ (p : Plan). test p ≡ true)
+    (λ _. parts.0) (λ _. plan_passes test kind rest parts.1)
+
+pub every_plan : (test : Plan → Bool) → each_plan test chips ≡ true → (kind : ℕ) → test (plan_of kind) ≡ true
+every_plan test t kind = plan_passes test kind chips t
+
+pub every_contiguous : (kind : ℕ) → Contiguous (plan_of kind)
+every_contiguous kind = every_plan (λ (p : Plan). contiguous 0 p.starts p.sizes p.size) refl kind
 
 pub every_laid_out : (kind : ℕ) → LaidOut (plan_of kind)
-every_laid_out kind = laid_out (plan_of kind) (every_plan Contiguous refl refl refl refl kind)
+every_laid_out kind = laid_out (plan_of kind) (every_contiguous kind)
 
 pub every_total : (kind : ℕ) → total (plan_of kind).sizes ≡ (plan_of kind).size
-every_total kind = every_plan (λ (p : Plan). total p.sizes ≡ p.size) refl refl refl refl kind
+every_total kind = omega (arith, table_end 0 (plan_of kind).starts (plan_of kind).sizes (plan_of kind).size (every_contiguous kind))
 
--- the block of an address inside the chip is one of 0 to 10
+-- an address inside the chip lies in one of its blocks
 pub every_block : (kind a : ℕ) → a < (plan_of kind).size → block_of (plan_of kind).sizes a < length (plan_of kind).sizes
 every_block kind a h = block_within (plan_of kind).sizes a (omega (arith, every_total kind))
 
-pub every_few : (kind : ℕ) → length (plan_of kind).sizes ≤ 11
-every_few kind = every_plan (λ (p : Plan). length p.sizes ≤ 11) (lit≤ tt) (lit≤ tt) (lit≤ tt) (lit≤ tt) kind
+pub every_few : (kind : ℕ) → length (plan_of kind).sizes ≤ 128
+every_few kind = leb-true _ _ (every_plan (λ (p : Plan). leb (length p.sizes) 128) refl kind)
 
 -- An address lies between a block's start and end just where it lies in the block.
 pub stretch_is : (sizes : List ℕ) (k b : ℕ) → b < length sizes

@@ -1,5 +1,7 @@
 -- Blocks in a row, given by their sizes alone: block 0 begins at address 0, and each other one where the one before it ends.
-use Rattle.std.specs.Prelude.{ℕ, zero, suc, ◌+◌, ◌-◌, ◌/◌, ◌%◌, ◌^◌, Bool, cond, List, [], ◌∷◌, ◌++◌, map, take, drop, ◌==◌, nat_lt}
+use Rattle.std.specs.Prelude.{ℕ, zero, suc, ◌+◌, ◌-◌, cond, if◌then◌else◌, List, [], ◌∷◌, ◌++◌, map, take, drop, nat_lt}
+use Rattle.geometry.specs.declared.set.BlockSet.{BlockSet}
+use Rattle.geometry.specs.Sets.{has}
 
 -- how many bytes the blocks have together
 abbrev pub total : List ℕ → ℕ
@@ -15,19 +17,15 @@ abbrev pub block_of : List ℕ → ℕ → ℕ
 block_of [] a = 0
 block_of (w ∷ ws) a = cond (nat_lt a w) 0 (1 + block_of ws (a - w))
 
--- bit b of a mask is 1
-abbrev pub bit : ℕ → ℕ → Bool
-bit mask b = mask / 2 ^ b % 2 == 1
+-- the cells with each block of the set filled with v, where `from` is the number of the first block
+abbrev pub filled_from : ℕ → List ℕ → BlockSet → ℕ → List ℕ → List ℕ
+filled_from from [] set v cells = cells
+filled_from from (w ∷ ws) set v cells =
+    (if has set from then map (λ _. v) (take w cells) else take w cells) ++ filled_from (from + 1) ws set v (drop w cells)
 
--- the cells with each block of the mask set to v throughout, where `first` is the number of the first block
-abbrev pub filled_from : ℕ → List ℕ → ℕ → ℕ → List ℕ → List ℕ
-filled_from first [] mask v cells = cells
-filled_from first (w ∷ ws) mask v cells =
-    cond (bit mask first) (map (λ _. v) (take w cells)) (take w cells) ++ filled_from (first + 1) ws mask v (drop w cells)
-
--- the cells with each block of the mask set to v throughout
-unfoldable pub filled : List ℕ → ℕ → ℕ → List ℕ → List ℕ
-filled sizes mask v cells = filled_from 0 sizes mask v cells
+-- the cells with each block of the set filled with v
+unfoldable pub filled : List ℕ → BlockSet → ℕ → List ℕ → List ℕ
+filled sizes set v cells = filled_from 0 sizes set v cells
 
 -- the cells with block b set to v throughout
 abbrev pub wiped : List ℕ → ℕ → ℕ → List ℕ → List ℕ

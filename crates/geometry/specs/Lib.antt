@@ -1,2 +1,6 @@
 pub mod Blocks
 pub mod Plans
+pub mod RowSizes
+pub mod Rows
+pub mod Sets
+pub mod Sheets

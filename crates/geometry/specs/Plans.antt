@@ -1,47 +1,22 @@
--- The geometries: for each its size, its device code, and its blocks with their starts and sizes.
-use Rattle.std.specs.Prelude.{◌≡◌, ℕ, ◌+◌, ◌<◌, ◌≤◌, Bool, true, false, cond, ◌&&◌, List, [], ◌∷◌, map, length, Some, None, Option, ◌==◌, nat_le, nat_lt, slice_index}
+-- The geometries: for each what its data sheet says, and its blocks with their starts and sizes. They are built from the constants of the source.
+use Rattle.std.specs.Prelude.{◌≡◌, ℕ, ◌+◌, ◌<◌, ◌≤◌, Bool, true, false, ◌&&◌, if◌then◌else◌, List, [], ◌∷◌, map, length, Some, None, Option, ◌==◌, nat_le, nat_lt, slice_index}
 use Rattle.geometry.specs.declared.block.Block.{Block}
+use Rattle.geometry.specs.declared.set.BlockSet.{BlockSet}
+use Rattle.geometry.specs.declared.datasheet.Commands.{Commands}
+use Rattle.geometry.specs.declared.datasheet.Choice.{Choice}
+use Rattle.geometry.specs.declared.datasheet.Sheet.{Sheet}
+use Rattle.geometry.specs.declared.kinds.TheConstants.{TOP, BOTTOM, BENCH}
+use Rattle.geometry.specs.declared.tables.TheConstants.{TOP_SHEET, TOP_BLOCKS, BOTTOM_SHEET, BOTTOM_BLOCKS, BENCH_SHEET, BENCH_BLOCKS, DEAD_SHEET, DEAD_BLOCKS}
+use Rattle.geometry.specs.Sets.{first}
 
 pub record Plan : Type 0 where
   pub size : ℕ
+  pub maker : ℕ
   pub code : ℕ
+  pub commands : Commands
+  pub choice : Choice
   pub starts : List ℕ
   pub sizes : List ℕ
-
--- TC58FVT004: seven blocks of 65,536, one of 32,768, two of 8,192, one of 16,384
-abbrev pub top : Plan
-top = record {
-  size = 524288;
-  code = 0x3B;
-  starts = 0 ∷ 65536 ∷ 131072 ∷ 196608 ∷ 262144 ∷ 327680 ∷ 393216 ∷ 458752 ∷ 491520 ∷ 499712 ∷ 507904 ∷ [];
-  sizes = 65536 ∷ 65536 ∷ 65536 ∷ 65536 ∷ 65536 ∷ 65536 ∷ 65536 ∷ 32768 ∷ 8192 ∷ 8192 ∷ 16384 ∷ [];
-}
-
--- TC58FVB004: the same sizes in the reverse order
-abbrev pub bottom : Plan
-bottom = record {
-  size = 524288;
-  code = 0xBA;
-  starts = 0 ∷ 16384 ∷ 24576 ∷ 32768 ∷ 65536 ∷ 131072 ∷ 196608 ∷ 262144 ∷ 327680 ∷ 393216 ∷ 458752 ∷ [];
-  sizes = 16384 ∷ 8192 ∷ 8192 ∷ 32768 ∷ 65536 ∷ 65536 ∷ 65536 ∷ 65536 ∷ 65536 ∷ 65536 ∷ 65536 ∷ [];
-}
-
--- the bench chip: TC58FVB004 with every size divided by 16
-abbrev pub bench : Plan
-bench = record {
-  size = 32768;
-  code = 0xBA;
-  starts = 0 ∷ 1024 ∷ 1536 ∷ 2048 ∷ 4096 ∷ 8192 ∷ 12288 ∷ 16384 ∷ 20480 ∷ 24576 ∷ 28672 ∷ [];
-  sizes = 1024 ∷ 512 ∷ 512 ∷ 2048 ∷ 4096 ∷ 4096 ∷ 4096 ∷ 4096 ∷ 4096 ∷ 4096 ∷ 4096 ∷ [];
-}
-
--- no chip: size 0, no blocks
-abbrev pub dead : Plan
-dead = record { size = 0; code = 0; starts = []; sizes = [] }
-
--- The plain numbers of the geometries. Every other number is no chip.
-abbrev pub plan_of : ℕ → Plan
-plan_of kind = cond (kind == 0) top (cond (kind == 1) bottom (cond (kind == 2) bench dead))
 
 -- the starts and the sizes of the blocks of a table
 abbrev pub starts_of : List Block → List ℕ
@@ -49,6 +24,63 @@ starts_of blocks = map (λ b. b.start) blocks
 
 abbrev pub sizes_of : List Block → List ℕ
 sizes_of blocks = map (λ b. b.size) blocks
+
+-- what a data sheet and a table of blocks say together
+abbrev pub plan : Sheet → List Block → Plan
+plan sheet blocks = record {
+  size = sheet.size;
+  maker = sheet.maker;
+  code = sheet.code;
+  commands = sheet.commands;
+  choice = sheet.choice;
+  starts = starts_of blocks;
+  sizes = sizes_of blocks;
+}
+
+-- what the data sheet says beside the blocks
+abbrev pub sheet_of : Plan → Sheet
+sheet_of p = record { size = p.size; maker = p.maker; code = p.code; commands = p.commands; choice = p.choice }
+
+-- TC58FVT004: the small blocks lie at the top
+abbrev pub top : Plan
+top = plan TOP_SHEET TOP_BLOCKS
+
+-- TC58FVB004: the same sizes in the reverse order
+abbrev pub bottom : Plan
+bottom = plan BOTTOM_SHEET BOTTOM_BLOCKS
+
+-- the bench chip: TC58FVB004 with every size divided by 16
+abbrev pub bench : Plan
+bench = plan BENCH_SHEET BENCH_BLOCKS
+
+-- no chip: size 0, no blocks
+abbrev pub dead : Plan
+dead = plan DEAD_SHEET DEAD_BLOCKS
+
+-- a plan with the plain number that names its chip
+pub record Named : Type 0 where
+  pub kind : ℕ
+  pub plan : Plan
+
+abbrev pub chips : List Named
+chips = record { kind = TOP; plan = top } ∷ record { kind = BOTTOM; plan = bottom } ∷ record { kind = BENCH; plan = bench } ∷ []
+
+-- the plan that a number names, among these
+abbrev pub plan_among : ℕ → List Named → Plan
+plan_among kind [] = dead
+plan_among kind (named ∷ rest) = if kind == named.kind then named.plan else plan_among kind rest
+
+-- The plan of a plain number. Every number that names no chip means no chip.
+abbrev pub plan_of : ℕ → Plan
+plan_of kind = plan_among kind chips
+
+-- a number names a chip: there are blocks
+abbrev pub is_chip : ℕ → Bool
+is_chip kind = nat_lt 0 (length (plan_of kind).sizes)
+
+-- the blocks of the chip with a number, as a set
+abbrev pub blocks_of : ℕ → BlockSet
+blocks_of kind = first (length (plan_of kind).sizes)
 
 -- a table has a plan's blocks: their starts and their sizes, in order
 pub record IsTable (p : Plan) (blocks : List Block) : Type 0 where
@@ -61,7 +93,7 @@ holds a b = nat_le b.start a && nat_lt a (b.start + b.size)
 
 -- block b of a plan
 abbrev pub block_at : Plan → ℕ → Option Block
-block_at p b = cond (nat_lt b (length p.sizes)) (Some (record { start = slice_index p.starts b; size = slice_index p.sizes b })) None
+block_at p b = if nat_lt b (length p.sizes) then Some (record { start = slice_index p.starts b; size = slice_index p.sizes b }) else None
 
 -- The law of blocks as a test over a whole table: each start is where the block before it ends, the first is `from`,
 -- no block is empty, and the last one ends at `end`.

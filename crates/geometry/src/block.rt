@@ -1,6 +1,5 @@
-// One block of a chip, and the masks that say which blocks are meant.
+// One block of a chip.
 ghost use Rattle.std.specs.Prelude.{◌≡◌, ℕ, ◌+◌, ◌<◌, ◌&&◌, length, if◌then◌else◌, nat_le, nat_lt, slice_index};
-ghost use Rattle.geometry.specs.Blocks.{bit};
 ghost use Rattle.geometry.specs.Plans.{holds};
 
 /// A block: where it begins, and how many bytes it has.
@@ -27,11 +26,4 @@ impl Block {
         let end = (start + self.size as usize).min(cells.len());
         cells[start..end].fill(byte);
     }
-}
-
-/// Whether a block is one of a mask, block b as bit b.
-pub fn is_marked(mask: u32, block: usize) -> bool
-    ensures { result ≡ bit mask block }
-{
-    block < 32 && mask >> block & 1 == 1
 }

@@ -1,10 +1,14 @@
 // The geometries by a plain number, which is what a chip keeps: each call goes to the one text that is generic over them.
 // A number and no enum: it is a rule of the project, and every number that a caller can write down has a meaning here.
 ghost use Rattle.std.specs.Prelude.{◌≡◌, ℕ, ◌≤◌, length};
-ghost use Rattle.geometry.specs.Blocks.{block_of, filled};
-ghost use Rattle.geometry.specs.Plans.{plan_of, IsTable, block_at, LaidOut};
+ghost use Rattle.geometry.specs.Blocks.{block_of};
+ghost use Rattle.geometry.specs.Plans.{plan_of, sheet_of, is_chip, blocks_of, IsTable, block_at, LaidOut};
+ghost use Rattle.geometry.specs.RowSizes.{sizes};
 
 use crate::block::Block;
+use crate::datasheet::Sheet;
+use crate::rows::Row;
+use crate::set::BlockSet;
 use crate::tables::{Bench, Bottom, Dead, Top};
 use crate::walk;
 
@@ -14,8 +18,8 @@ pub const TOP: u8 = 0;
 pub const BOTTOM: u8 = 1;
 /// the bench chip
 pub const BENCH: u8 = 2;
-/// no chip; every larger number means the same
-pub const DEAD: u8 = 3;
+/// no chip; every number that names none means the same
+pub const DEAD: u8 = 255;
 
 // The work `walk::$work` for the geometry of a number.
 macro_rules! by_kind {
@@ -43,14 +47,35 @@ pub fn code(kind: u8) -> u8
     by_kind!(kind, code())
 }
 
+/// What the data sheet says of the chip beside its blocks.
+pub fn sheet(kind: u8) -> Sheet
+    ensures { result ≡ sheet_of (plan_of kind) }
+{
+    by_kind!(kind, sheet())
+}
+
 /// How many blocks the chip has.
 #[tactic(auto, using(crate::proofs::Placing::every_few, crate::proofs::Placing::every_laid_out))]
 pub fn count(kind: u8) -> usize
     ensures value { result ≡ length (plan_of kind).sizes }
-    ensures bound { result ≤ 11 }
+    ensures bound { result ≤ 128 }
     ensures law { (kind : ℕ) → LaidOut (plan_of kind) }
 {
     by_kind!(kind, count())
+}
+
+/// Whether a number names a chip.
+pub fn is_chip(kind: u8) -> bool
+    ensures { result ≡ is_chip kind }
+{
+    count(kind) > 0
+}
+
+/// The blocks that the chip has, as a set.
+pub fn blocks(kind: u8) -> BlockSet
+    ensures { result ≡ blocks_of kind }
+{
+    BlockSet::first(count(kind))
 }
 
 /// The blocks, one after the other.
@@ -70,14 +95,14 @@ pub fn nth_block(kind: u8, number: usize) -> Option<Block>
 /// The block that an address lies in; past the last block, the number of blocks.
 pub fn block_at(kind: u8, address: u32) -> usize
     ensures value { result ≡ block_of (plan_of kind).sizes address }
-    ensures bound { result ≤ 11 }
+    ensures bound { result ≤ 128 }
 {
     by_kind!(kind, block_at(address))
 }
 
-/// Sets each block of the mask to `byte` throughout, as far as there are cells.
-pub fn fill(kind: u8, cells: &mut [u8], mask: u32, byte: u8)
-    ensures { cells.new ≡ filled (plan_of kind).sizes mask byte cells.old }
+/// The blocks as a row.
+pub fn row(kind: u8) -> Row
+    ensures { sizes result ≡ (plan_of kind).sizes }
 {
-    by_kind!(kind, fill(cells, mask, byte))
+    by_kind!(kind, row())
 }

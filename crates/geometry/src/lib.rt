@@ -1,12 +1,21 @@
-//! The geometries: how large each chip is, and where its blocks lie.
+//! The geometries: how large each chip is, what its data sheet says, and where its blocks lie.
 #![tactic(auto)]
 
 mod block;
+mod datasheet;
 mod kinds;
+mod rows;
+mod set;
 mod tables;
 mod walk;
 
-pub use block::{Block, is_marked};
-pub use kinds::{BENCH, BOTTOM, DEAD, TOP, block_at, code, count, fill, nth_block, size, table};
+pub use block::Block;
+pub use datasheet::{Choice, Commands, Sheet};
+pub use kinds::{
+    BENCH, BOTTOM, DEAD, TOP, block_at, blocks, code, count, is_chip, nth_block, row, sheet, size,
+    table,
+};
+pub use rows::Row;
+pub use set::{BlockSet, LARGEST_SET};
 pub use tables::{Bench, Bottom, Dead, Geometry, Top};
 pub use walk::cell_at;

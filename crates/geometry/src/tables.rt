@@ -1,13 +1,14 @@
-// The geometries, each with the table of its blocks.
+// The chips: for each what its data sheet says, with the table of its blocks. The definitions in specs/ are built from these very constants.
 ghost use Rattle.std.specs.Prelude.{◌≡◌, ℕ, ◌≤◌, length};
-ghost use Rattle.geometry.specs.Plans.{Plan, top, bottom, bench, dead, IsTable, Contiguous};
+ghost use Rattle.geometry.specs.Plans.{Plan, top, bottom, bench, dead, sheet_of, IsTable, Contiguous};
 ghost use Rattle.std.proofs.Common.{rules};
 
 use crate::block::Block;
+use crate::datasheet::{Choice, Commands, Sheet};
 
-/// What a geometry brings: its size, its device code and its blocks. `plan` gives them in the words of the documents; the
-/// facts at the end tie the constants to it, so that code generic over a geometry knows what it is given. Each impl proves them itself: a macro may write
-/// no impl.
+/// What a geometry brings: its size, its device code, what else its data sheet says, and its blocks. `plan` gives them in the words of the
+/// documents; the facts at the end tie the constants to it, so that code generic over a geometry knows what it is given. Each impl proves them
+/// itself: a macro may write no impl.
 pub trait Geometry {
     /// How many bytes the chip has.
     const SIZE: u32;
@@ -26,6 +27,10 @@ pub trait Geometry {
 
     ghost plan: { Plan };
 
+    /// What the data sheet says beside the blocks.
+    fn sheet() -> Sheet
+        ensures { result ≡ sheet_of plan };
+
     /// The blocks, one after the other.
     fn table() -> &'static [Block]
         ensures { IsTable plan result.now };
@@ -39,9 +44,24 @@ pub trait Geometry {
     // Blocks follow one another from 0 without gap or overlap and end at the size.
     ghost contiguous: { Contiguous plan };
 
-    // A mask of 32 bits has room for all blocks.
-    ghost few: { length plan.sizes ≤ 11 };
+    // A set of blocks has room for all of them.
+    ghost few: { length plan.sizes ≤ 128 };
 }
+
+// What the three chips share: the maker, where they take commands, and how an address chooses in ID mode.
+const TOSHIBA: u8 = 0x98;
+
+const COMMANDS: Commands = Commands {
+    first: 0x5555,
+    second: 0x2AAA,
+    bits: 15,
+};
+
+const CHOICE: Choice = Choice {
+    low: 0,
+    middle: 1,
+    high: 6,
+};
 
 // A table of blocks, each by its start and its size.
 macro_rules! blocks {
@@ -52,6 +72,14 @@ macro_rules! blocks {
 
 /// TC58FVT004: the small blocks lie at the top.
 pub struct Top;
+
+const TOP_SHEET: Sheet = Sheet {
+    size: 524288,
+    maker: TOSHIBA,
+    code: 0x3B,
+    commands: COMMANDS,
+    choice: CHOICE,
+};
 
 const TOP_BLOCKS: [Block; 11] = blocks![
     0 => 65536,
@@ -68,19 +96,23 @@ const TOP_BLOCKS: [Block; 11] = blocks![
 ];
 
 impl Geometry for Top {
-    const SIZE: u32 = 524288;
+    const SIZE: u32 = TOP_SHEET.size;
 
-    ghost SIZE = { 524288 };
+    ghost SIZE = { top.size };
 
-    const CODE: u8 = 0x3B;
+    const CODE: u8 = TOP_SHEET.code;
 
-    ghost CODE = { 0x3B };
+    ghost CODE = { top.code };
 
-    const BLOCKS: usize = 11;
+    const BLOCKS: usize = TOP_BLOCKS.len();
 
-    ghost BLOCKS = { 11 };
+    ghost BLOCKS = { length top.sizes };
 
     ghost plan = { top };
+
+    fn sheet() -> Sheet {
+        TOP_SHEET
+    }
 
     fn table() -> &'static [Block] {
         &TOP_BLOCKS
@@ -100,6 +132,14 @@ impl Geometry for Top {
 /// TC58FVB004: the small blocks lie at the bottom.
 pub struct Bottom;
 
+const BOTTOM_SHEET: Sheet = Sheet {
+    size: 524288,
+    maker: TOSHIBA,
+    code: 0xBA,
+    commands: COMMANDS,
+    choice: CHOICE,
+};
+
 const BOTTOM_BLOCKS: [Block; 11] = blocks![
     0 => 16384,
     16384 => 8192,
@@ -115,19 +155,23 @@ const BOTTOM_BLOCKS: [Block; 11] = blocks![
 ];
 
 impl Geometry for Bottom {
-    const SIZE: u32 = 524288;
+    const SIZE: u32 = BOTTOM_SHEET.size;
 
-    ghost SIZE = { 524288 };
+    ghost SIZE = { bottom.size };
 
-    const CODE: u8 = 0xBA;
+    const CODE: u8 = BOTTOM_SHEET.code;
 
-    ghost CODE = { 0xBA };
+    ghost CODE = { bottom.code };
 
-    const BLOCKS: usize = 11;
+    const BLOCKS: usize = BOTTOM_BLOCKS.len();
 
-    ghost BLOCKS = { 11 };
+    ghost BLOCKS = { length bottom.sizes };
 
     ghost plan = { bottom };
+
+    fn sheet() -> Sheet {
+        BOTTOM_SHEET
+    }
 
     fn table() -> &'static [Block] {
         &BOTTOM_BLOCKS
@@ -147,6 +191,14 @@ impl Geometry for Bottom {
 /// The bench chip: TC58FVB004 with every size divided by 16.
 pub struct Bench;
 
+const BENCH_SHEET: Sheet = Sheet {
+    size: 32768,
+    maker: TOSHIBA,
+    code: 0xBA,
+    commands: COMMANDS,
+    choice: CHOICE,
+};
+
 const BENCH_BLOCKS: [Block; 11] = blocks![
     0 => 1024,
     1024 => 512,
@@ -162,19 +214,23 @@ const BENCH_BLOCKS: [Block; 11] = blocks![
 ];
 
 impl Geometry for Bench {
-    const SIZE: u32 = 32768;
+    const SIZE: u32 = BENCH_SHEET.size;
 
-    ghost SIZE = { 32768 };
+    ghost SIZE = { bench.size };
 
-    const CODE: u8 = 0xBA;
+    const CODE: u8 = BENCH_SHEET.code;
 
-    ghost CODE = { 0xBA };
+    ghost CODE = { bench.code };
 
-    const BLOCKS: usize = 11;
+    const BLOCKS: usize = BENCH_BLOCKS.len();
 
-    ghost BLOCKS = { 11 };
+    ghost BLOCKS = { length bench.sizes };
 
     ghost plan = { bench };
+
+    fn sheet() -> Sheet {
+        BENCH_SHEET
+    }
 
     fn table() -> &'static [Block] {
         &BENCH_BLOCKS
@@ -194,22 +250,42 @@ impl Geometry for Bench {
 /// No chip: what is left where a chip could not be made.
 pub struct Dead;
 
+const DEAD_SHEET: Sheet = Sheet {
+    size: 0,
+    maker: 0,
+    code: 0,
+    commands: Commands {
+        first: 0,
+        second: 0,
+        bits: 0,
+    },
+    choice: Choice {
+        low: 0,
+        middle: 0,
+        high: 0,
+    },
+};
+
 const DEAD_BLOCKS: [Block; 0] = [];
 
 impl Geometry for Dead {
-    const SIZE: u32 = 0;
+    const SIZE: u32 = DEAD_SHEET.size;
 
-    ghost SIZE = { 0 };
+    ghost SIZE = { dead.size };
 
-    const CODE: u8 = 0;
+    const CODE: u8 = DEAD_SHEET.code;
 
-    ghost CODE = { 0 };
+    ghost CODE = { dead.code };
 
-    const BLOCKS: usize = 0;
+    const BLOCKS: usize = DEAD_BLOCKS.len();
 
-    ghost BLOCKS = { 0 };
+    ghost BLOCKS = { length dead.sizes };
 
     ghost plan = { dead };
+
+    fn sheet() -> Sheet {
+        DEAD_SHEET
+    }
 
     fn table() -> &'static [Block] {
         &DEAD_BLOCKS

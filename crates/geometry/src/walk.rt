@@ -1,10 +1,13 @@
-// The chip's work over its blocks, for any geometry. `size`, `code`, `count` and `table` hand on what a geometry brings: a macro that asks
+// What a geometry says of a chip, for any geometry. `size`, `code`, `sheet`, `count` and `table` hand on what a geometry brings: a macro that asks
 // for them by type is refused, as it would have an item in its expansion.
-ghost use Rattle.std.specs.Prelude.{◌≡◌, length, position, slice_index};
-ghost use Rattle.geometry.specs.Blocks.{block_of, filled};
-ghost use Rattle.geometry.specs.Plans.{IsTable, block_at, holds};
+ghost use Rattle.std.specs.Prelude.{◌≡◌, length, slice_index};
+ghost use Rattle.geometry.specs.Blocks.{block_of};
+ghost use Rattle.geometry.specs.Plans.{sheet_of, IsTable, block_at};
+ghost use Rattle.geometry.specs.RowSizes.{sizes};
 
-use crate::block::{Block, is_marked};
+use crate::block::Block;
+use crate::datasheet::Sheet;
+use crate::rows::Row;
 use crate::tables::Geometry;
 
 pub(crate) fn size<G: Geometry>() -> u32
@@ -17,6 +20,12 @@ pub(crate) fn code<G: Geometry>() -> u8
     ensures { result ≡ G.Geometry.plan.code }
 {
     G::CODE
+}
+
+pub(crate) fn sheet<G: Geometry>() -> Sheet
+    ensures { result ≡ sheet_of G.Geometry.plan }
+{
+    G::sheet()
 }
 
 pub(crate) fn count<G: Geometry>() -> usize
@@ -39,30 +48,19 @@ pub(crate) fn nth_block<G: Geometry>(number: usize) -> Option<Block>
     G::table().get(number).copied()
 }
 
-// The first of the blocks that holds an address.
-fn holder(blocks: &[Block], address: u32) -> Option<usize>
-    ensures { result ≡ position (holds address) blocks.now }
+// The blocks as a row.
+#[tactic(auto, using(crate::proofs::Placing::unbroken))]
+pub(crate) fn row<G: Geometry>() -> Row
+    ensures { sizes result ≡ G.Geometry.plan.sizes }
 {
-    blocks.iter().position(|block| block.contains(address))
+    Row { blocks: G::table() }
 }
 
 // The block that an address lies in; past the last block, the number of blocks.
-#[tactic(auto, using(crate::proofs::Placing::holder_is))]
 pub(crate) fn block_at<G: Geometry>(address: u32) -> usize
     ensures { result ≡ block_of G.Geometry.plan.sizes address }
 {
-    holder(G::table(), address).unwrap_or(G::BLOCKS)
-}
-
-// Sets each block of the mask to `byte` throughout, as far as there are cells.
-pub(crate) fn fill<G: Geometry>(cells: &mut [u8], mask: u32, byte: u8)
-    ensures { cells.new ≡ filled G.Geometry.plan.sizes mask byte cells.old }
-{
-    for (number, block) in G::table().iter().enumerate() {
-        if is_marked(mask, number) {
-            block.fill(cells, byte);
-        }
-    }
+    row::<G>().block_at(address)
 }
 
 /// The cell at an address; 0 where there is none.

@@ -1,5 +1,6 @@
 use Rattle.std.proofs.Common.{◌≡◌, ℕ, ◌+◌, ◌-◌, Some, None, sym, ap, ◌∙◌, arith}
-use Rattle.chip.specs.Flash.{view, with_state}
+use Rattle.chip.specs.Flash.{view}
+use Rattle.chip.proofs.Updates.{with_state}
 use Rattle.chip.specs.Times.{due, steps}
 use Rattle.chip.proofs.Passing.{still, until, over, steps_none, steps_split, due_positive}
 use Rattle.chip.proofs.chip.Chip.advance.Goals as goal

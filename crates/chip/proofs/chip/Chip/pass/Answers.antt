@@ -1,7 +1,8 @@
 use Rattle.std.proofs.Common.{◌≡◌, true, leb, sym, ◌∙◌}
 use Rattle.fault.proofs.Granted.{granted}
 use Rattle.chip.specs.Flash.{view}
-use Rattle.chip.specs.Times.{longest, after}
+use Rattle.fault.specs.Limits.{longest}
+use Rattle.chip.specs.Times.{after}
 use Rattle.chip.proofs.Passing.{counted}
 use Rattle.chip.proofs.chip.Chip.pass.Goals as goal
 

@@ -1,0 +1,7 @@
+pub mod Erases
+pub mod Grounds
+pub mod Identities
+pub mod Limits
+pub mod Programs
+pub mod Sequences
+pub mod Statuses

@@ -1,0 +1,18 @@
+//! What all families of NOR flash chips share: the command sequences, what a program and an erase do and how long they last, what a reset leaves,
+//! and what a status read and a read in ID mode answer. A family has states of its own, and hands the work on cells to this crate.
+#![tactic(auto)]
+
+mod erase;
+mod ground;
+mod limits;
+mod program;
+mod reads;
+mod sequence;
+
+pub use ground::Ground;
+pub use limits::{
+    LONGEST_ERASE, LONGEST_PROGRAM, LONGEST_SUSPENSION, PROTECTED_ERASE, PROTECTED_PROGRAM, WINDOW,
+    erase_fits, program_fits, suspend_fits,
+};
+pub use reads::{Question, SUSPENDED_STATUS, identity, status};
+pub use sequence::{Decision, Mode, Place};

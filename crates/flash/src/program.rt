@@ -1,0 +1,51 @@
+// Programming a byte.
+ghost use Rattle.std.specs.Prelude.{◌≡◌};
+ghost use Rattle.flash.specs.Grounds.{ground};
+ghost use Rattle.flash.specs.Programs.{burnt, program_time, program_fails, after_program};
+
+use crate::ground::Ground;
+use crate::limits::{LONGEST_PROGRAM, PROTECTED_PROGRAM};
+use fault::needs_erase;
+use geometry::cell_at;
+
+// The cell at an address becomes cell AND byte.
+fn burn(cells: &mut [u8], address: u32, byte: u8)
+    ensures { cells.new ≡ burnt cells.old address byte }
+{
+    let place = address as usize;
+    if place < cells.len() {
+        cells[place] &= byte;
+    }
+}
+
+impl Ground {
+    /// How long the chip is busy with a byte, where a byte that does not fail takes `each`.
+    pub fn program_time(&self, each: u32, cells: &[u8], address: u32, byte: u8) -> u32
+        ensures { result ≡ program_time (ground self.now) each cells.now address byte }
+    {
+        if self.is_protected(address) {
+            PROTECTED_PROGRAM
+        } else if self.is_worn(address) || needs_erase(cell_at(cells, address), byte) {
+            LONGEST_PROGRAM
+        } else {
+            each
+        }
+    }
+
+    /// Whether the program of a byte fails.
+    pub fn program_fails(&self, cells: &[u8], address: u32, byte: u8) -> bool
+        ensures { result ≡ program_fails (ground self.now) cells.now address byte }
+    {
+        !self.is_protected(address)
+            && (self.is_worn(address) || needs_erase(cell_at(cells, address), byte))
+    }
+
+    /// Does to the cells what the program of a byte does, at its end and where a reset breaks it off.
+    pub fn program(&self, cells: &mut [u8], address: u32, byte: u8)
+        ensures { cells.new ≡ after_program (ground self.now) cells.old address byte }
+    {
+        if !self.is_protected(address) && !self.is_worn(address) {
+            burn(cells, address, byte);
+        }
+    }
+}

@@ -1,0 +1,12 @@
+use Rattle.std.proofs.Common.{◌≡◌, ℕ, ◌<◌, cond, ◌&&◌, ltb, length, get_or}
+use Rattle.geometry.specs.Blocks.{block_of}
+use Rattle.geometry.specs.RowSizes.{sizes}
+use Rattle.geometry.specs.Sets.{has}
+use Rattle.geometry.proofs.rows.Row.fill.Given as goal
+
+abbrev pub invariant-loop-number : goal.invariant-loop-number
+invariant-loop-number l =
+    (k : ℕ) → k < length l.initial.cells
+    → get_or l.cells k 0
+    ≡ cond (ltb (block_of (sizes l.self) k) l.number && has l.set (block_of (sizes l.self) k))
+    l.byte (get_or l.initial.cells k 0)
