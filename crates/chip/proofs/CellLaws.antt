@@ -119,9 +119,9 @@ passed_clears (suc n) f e a b t =
     let one = step_clears f f.state refl e in
     one.1 a b (passed_clears n (tick f) one.0 a b t)
 
-pub reset_clears : OnlyClears after_reset
+pub reset_never_sets : (f : Flash) (a b : ℕ) → bit (cell (after_reset f) a) b ≡ true → bit (cell f a) b ≡ true
 unfolding after_reset
-reset_clears f n a b t = by f.state t
+reset_never_sets f a b t = by f.state t
   where
     by_phase : (e : Erase) (p : Phase) → bit (get_or (broken_erase f e p) a 0) b ≡ true → bit (cell f a) b ≡ true
     by_phase e Window t = t
@@ -134,3 +134,6 @@ reset_clears f n a b t = by f.state t
     by (Suspending e w) t = by_phase e e.phase t
     by (Suspended e) t = by_phase e e.phase t
     by (Failed m u) t = t
+
+pub reset_clears : OnlyClears after_reset
+reset_clears f n a b t = reset_never_sets f a b t

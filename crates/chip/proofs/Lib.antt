@@ -1,8 +1,10 @@
 pub mod CellLaws
+pub mod Lasting
 pub mod Limits
 pub mod MakingLaws
 pub mod PassLaws
 pub mod Passing
+pub mod RunLaws
 pub mod Updates
 pub mod Worked
 pub mod WriteLaws

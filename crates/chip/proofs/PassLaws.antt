@@ -1,5 +1,5 @@
 -- The laws of time and of the reset pin.
-use Rattle.std.proofs.Common.{◌≡◌, ℕ, zero, suc, ◌+◌, true, false, leb, None, Option, sym, refl, ap, ◌∙◌, subst, arith}
+use Rattle.std.proofs.Common.{◌≡◌, ℕ, zero, suc, true, false, leb, None, Option, sym, refl, ap, ◌∙◌, subst}
 use Rattle.std.proofs.lemmas.Bool.{cond_both, both_ways}
 use Rattle.chip.specs.declared.state.Phase.{Phase}
 use Rattle.chip.specs.declared.state.Phase.TheVariants.{Window, Erasing as Begun}
@@ -10,16 +10,12 @@ use Rattle.chip.specs.declared.state.State.TheVariants.{Ready, Programming, Eras
 use Rattle.flash.specs.Programs.{program_fails}
 use Rattle.chip.specs.Flash.{Flash, ground_of}
 use Rattle.chip.specs.Writes.{read_mode}
-use Rattle.chip.specs.Times.{programmed, spoils, erased, ended, due, lowered, step_by, tick, with_clock, passed}
+use Rattle.chip.specs.Times.{programmed, spoils, erased, ended, due, lowered, step_by, tick, passed}
 use Rattle.chip.specs.Resets.{after_reset}
 use Rattle.chip.specs.Laws.{busy, has_failed, PassLaws, ResetLaws, AllSound}
-use Rattle.chip.proofs.Passing.{passed_is, passed_steps, still}
-use Rattle.chip.proofs.CellLaws.{passed_keeps, passed_clears, reset_keeps, reset_clears}
-
-split : (a b : ℕ) (f : Flash) → passed (a + b) f ≡ passed b (passed a f)
-unfolding passed
-split zero b f = let e : 0 + b ≡ b = omega arith in ap (λ (n : ℕ). passed n f) e
-split (suc a) b f = let e : suc a + b ≡ suc (a + b) = omega arith in ap (λ (n : ℕ). passed n f) e ∙ split a b (tick f)
+use Rattle.chip.proofs.Passing.{passed_is, passed_split, passed_still}
+use Rattle.chip.proofs.CellLaws.{passed_keeps, passed_clears, reset_keeps, reset_clears, reset_never_sets}
+use Rattle.chip.proofs.Lasting.{own_cell, stands_still, stopping_until, stopping_over, erases, fails, refuses}
 
 -- an operation goes on, has ended in read mode, or has failed
 data Course : State → Type 0 where
@@ -57,10 +53,6 @@ failed_due (Suspending r w) e = absurd (both_ways _ refl e)
 failed_due (Suspended r) e = refl
 failed_due (Failed b t) e = refl
 
-stays : (n : ℕ) (f : Flash) → due f.state ≡ None → (passed n f).state ≡ f.state
-stays n f e =
-    ap (λ (g : Flash). g.state) (passed_steps n f ∙ ap (λ (g : Flash). with_clock g (passed n f).clock) (still n f e))
-
 step_course : (f : Flash) (s : State) → f.state ≡ s → Course s → Course (step_by f (due s)).state
 step_course f s e (works h) = busy_course f s e h
 step_course f s e ready = subst Course (sym e) ready
@@ -81,13 +73,19 @@ pub pass_laws : PassLaws
 unfolding passed
 pass_laws = record {
   none = λ f. refl;
-  one_more = λ n f. split n 1 f;
-  split = split;
+  one_more = λ n f. passed_split n 1 f;
+  split = passed_split;
   counts = λ n f s. ap (λ (g : Flash). g.clock) (passed_is n f s.counted);
   keeps_blocks = passed_keeps;
   only_clears = passed_clears;
   ends = λ n f w b e. course_end _ (passed_course n f (works w)) b e;
-  failed = λ n f e. stays n f (failed_due f.state e);
+  failed = λ n f e. (passed_still n f (failed_due f.state e)).state;
+  own_cell = own_cell;
+  stands_still = stands_still;
+  suspends = λ f e wait s h. (λ n k. stopping_until f e wait s n k, stopping_over f e wait s h);
+  erases = erases;
+  fails = fails;
+  refuses = refuses;
 }
 
 pub reset_laws : ResetLaws
@@ -97,6 +95,7 @@ reset_laws = record {
   no_time = λ f. refl;
   keeps_blocks = reset_keeps;
   only_clears = reset_clears;
+  never_sets = reset_never_sets;
 }
 
 pub all_sound : AllSound

@@ -152,3 +152,35 @@ passed_steps zero f = refl
 passed_steps (suc n) f =
     let c : ℕ = (f.clock + 1) % 4294967296 in
     passed_steps n (tick f) ∙ ap (λ (g : Flash). with_clock g (passed n (tick f)).clock) (steps_clock n (step f) c)
+
+pub passed_split : (a b : ℕ) (f : Flash) → passed (a + b) f ≡ passed b (passed a f)
+unfolding passed
+passed_split zero b f = let e : 0 + b ≡ b = omega arith in ap (λ (n : ℕ). passed n f) e
+passed_split (suc a) b f = let e : suc a + b ≡ suc (a + b) = omega arith in ap (λ (n : ℕ). passed n f) e ∙ passed_split a b (tick f)
+
+-- What the chip is doing after n microseconds, and its cells, do not hang on the count.
+pub record Same (f g : Flash) : Type 0 where
+  pub state : f.state ≡ g.state
+  pub cells : f.cells ≡ g.cells
+
+pub passed_same : (n : ℕ) (f g : Flash) → steps n f ≡ g → Same (passed n f) g
+passed_same n f g e =
+    let all : passed n f ≡ with_clock g (passed n f).clock = passed_steps n f ∙ ap (λ (x : Flash). with_clock x (passed n f).clock) e in
+    record { state = ap (λ (x : Flash). x.state) all; cells = ap (λ (x : Flash). x.cells) all }
+
+pub passed_until : (n d : ℕ) (f : Flash) → due f.state ≡ Some d → n < d → Same (passed n f) (with_state f (lowered n f.state))
+passed_until n d f e h = passed_same n f _ (until n d f e h)
+
+pub passed_over : (d : ℕ) (f : Flash) → due f.state ≡ Some d → Same (passed d f) (ended f f.state)
+passed_over d f e = passed_same d f _ (over d f e)
+
+pub passed_still : (n : ℕ) (f : Flash) → due f.state ≡ None → Same (passed n f) f
+passed_still n f e = passed_same n f f (still n f e)
+
+-- What is at rest after d microseconds stays so.
+pub rests : (d n : ℕ) (f : Flash) → d ≤ n → due (passed d f).state ≡ None → Same (passed n f) (passed d f)
+rests d n f h e =
+    let k : n ≡ d + (n - d) = omega arith in
+    let on : passed n f ≡ passed (n - d) (passed d f) = ap (λ (m : ℕ). passed m f) k ∙ passed_split d (n - d) f in
+    let s : Same (passed (n - d) (passed d f)) (passed d f) = passed_still (n - d) (passed d f) e in
+    record { state = ap (λ (x : Flash). x.state) on ∙ s.state; cells = ap (λ (x : Flash). x.cells) on ∙ s.cells }

@@ -1,10 +1,12 @@
 -- The laws of the write and the read cycle.
-use Rattle.std.proofs.Common.{◌≡◌, ℕ, ◌-◌, Bool, true, false, cond, ◌&&◌, eqb, sym, refl, ap, ◌∙◌, subst, inl, inr}
+use Rattle.std.proofs.Common.{◌||◌, ◌<◌, arith, ◌≡◌, ℕ, ◌-◌, Bool, true, false, cond, ◌&&◌, eqb, sym, refl, ap, ◌∙◌, subst, inl, inr}
 use Rattle.geometry.specs.declared.datasheet.Commands.{Commands}
-use Rattle.geometry.specs.Sets.{union}
+use Rattle.geometry.specs.Sets.{has, union}
+use Rattle.geometry.specs.Blocks.{block_of}
 use Rattle.geometry.specs.Sheets.{low_bits}
+use Rattle.std.proofs.Math.Bool.{and-true}
 use Rattle.flash.specs.Limits.{window}
-use Rattle.std.proofs.lemmas.Bool.{ne_eqb, eq-eqb, eqb-true, and_parts, cases_Bool}
+use Rattle.std.proofs.lemmas.Bool.{ne_eqb, eq-eqb, eqb-true, ltb-true, lt-ltb, and_parts, cases_Bool}
 use Rattle.flash.specs.declared.sequence.Mode.{Mode}
 use Rattle.flash.specs.declared.sequence.Mode.TheVariants.{Read, Id}
 use Rattle.flash.specs.declared.sequence.Place.{Place}
@@ -15,15 +17,17 @@ use Rattle.chip.specs.declared.state.Phase.{Phase}
 use Rattle.chip.specs.declared.state.Phase.TheVariants.{Window, Erasing as Begun}
 use Rattle.chip.specs.declared.state.Erase.{Erase}
 use Rattle.chip.specs.declared.state.State.{State}
-use Rattle.chip.specs.declared.state.State.TheVariants.{Ready, Erasing, Failed}
+use Rattle.chip.specs.declared.state.State.TheVariants.{Ready, Programming, Erasing, Suspending, Suspended, Failed}
 use Rattle.flash.specs.Sequences.{decided}
-use Rattle.chip.specs.Flash.{Flash, commands, inside}
+use Rattle.chip.specs.Flash.{Flash, blocks, commands, inside}
 use Rattle.chip.proofs.Updates.{with_state}
-use Rattle.chip.specs.Writes.{read_mode, block_alone, obeyed, interrupted, heeded, written}
+use Rattle.chip.specs.Writes.{block_alone, obeyed, interrupted, heeded, written}
 use Rattle.chip.specs.Reads.{flipped, seen}
-use Rattle.chip.specs.Times.{steps, passed, erase_time, with_clock}
+use Rattle.chip.specs.Times.{passed, erase_time}
 use Rattle.chip.specs.Laws.{Fits, first_write, second_write, to_identify, to_program, any_byte, to_erase, third_write, fourth_write, in_block, unlocked, First, SecondAddress, WriteLaws, ReadLaws}
-use Rattle.chip.proofs.Passing.{until, over, passed_steps}
+use Rattle.geometry.proofs.Placing.{every_block, every_few}
+use Rattle.geometry.proofs.Sets.{has_only, has_union}
+use Rattle.chip.proofs.Passing.{passed_until, passed_over}
 
 -- A write in range, by what the chip was doing.
 pub write_in : (f : Flash) (s : State) → f.state ≡ s → (a b : ℕ) → inside f a ≡ true → written f a b ≡ with_state f (heeded f s a b)
@@ -132,8 +136,23 @@ unfolding reopened
 adds f e s w a i =
     write_in f (Erasing e) s a 0x30 i ∙ ap (λ (p : Phase). with_state f (interrupted f e p a 0x30)) w
 
-state_after : (n : ℕ) (f g : Flash) → steps n f ≡ g → (passed n f).state ≡ g.state
-state_after n f g e = ap (λ (x : Flash). x.state) (passed_steps n f ∙ ap (λ (x : Flash). with_clock x (passed n f).clock) e)
+-- A write that what the chip is doing does not heed changes nothing, in range or not.
+ignored : (f : Flash) (s : State) → f.state ≡ s → (a b : ℕ) → heeded f s a b ≡ s → written f a b ≡ f
+unfolding written
+ignored f s e a b h = by (inside f a)
+  where
+    by : (t : Bool) → cond t (with_state f (heeded f f.state a b)) f ≡ f
+    by true = ap (with_state f) (ap (λ (x : State). heeded f x a b) e ∙ h ∙ sym e)
+    by false = refl
+
+-- the blocks selected once one more is
+selects : (f : Flash) (e : Erase) (a b : ℕ) → inside f a ≡ true
+    → has (union e.selected (block_alone f a)) b ≡ (has e.selected b || eqb b (block_of (blocks f) a))
+selects f e a b i =
+    let few : block_of (blocks f) a < 128 = omega (arith, every_block f.setup.kind a (ltb-true _ _ i), every_few f.setup.kind) in
+    let one : has (block_alone f a) b ≡ eqb b (block_of (blocks f) a) =
+    has_only (block_of (blocks f) a) b ∙ ap (λ (t : Bool). eqb b (block_of (blocks f) a) && t) (lt-ltb _ 128 few) ∙ and-true _ in
+    has_union e.selected (block_alone f a) b ∙ ap (λ (t : Bool). has e.selected b || t) one
 
 pub write_laws : WriteLaws
 unfolding written reopened
@@ -157,27 +176,33 @@ write_laws = record {
   window = λ f e s w a i n h.
       let g : Flash = with_state f (Erasing (reopened f e a)) in (
         record { phase = Window; selected = (reopened f e a).selected; left = window - n; toggle = e.toggle },
-        ap (λ (x : Flash). (passed n x).state) (adds f e s w a i) ∙ state_after n g _ (until n window g refl h),
+        ap (λ (x : Flash). (passed n x).state) (adds f e s w a i) ∙ (passed_until n window g refl h).state,
         refl,
       );
   begins = λ f e s w a i.
       let g : Flash = with_state f (Erasing (reopened f e a)) in (
         record { phase = Begun; selected = (reopened f e a).selected; left = erase_time f (reopened f e a).selected; toggle = e.toggle },
-        ap (λ (x : Flash). (passed window x).state) (adds f e s w a i) ∙ state_after window g _ (over window g refl),
+        ap (λ (x : Flash). (passed window x).state) (adds f e s w a i) ∙ (passed_over window g refl).state,
         refl,
         refl,
       );
-  failed = λ f byte toggle s a b n. unheeded f byte toggle s a b n (inside f a);
+  adds = λ f e s w a i. (reopened f e a, ap (λ (x : Flash). x.state) (adds f e s w a i), refl, refl, λ b. selects f e a b i);
+  ends_window = λ f e s w a b i n m.
+      write_in f (Erasing e) s a b i ∙ ap (λ (p : Phase). with_state f (interrupted f e p a b)) w ∙ rw (ne_eqb b 0x30 n, ne_eqb b 0xB0 m);
+  deaf_in_program = λ f p s a b. ignored f (Programming p) s a b refl;
+  deaf_in_stop = λ f e wait s a b. ignored f (Suspending e wait) s a b refl;
+  deaf_in_erasing = λ f e s w a b n.
+      ignored f (Erasing e) s a b (ap (λ (p : Phase). interrupted f e p a b) w ∙ rw (ne_eqb b 0xB0 n));
+  suspends = λ f e s a i. write_in f (Erasing e) s a 0xB0 i ∙ ap (with_state f) (stops f e e.phase a);
+  goes_on = λ f e s a i. write_in f (Suspended e) s a 0x30 i;
+  deaf_in_suspension = λ f e s a b n. ignored f (Suspended e) s a b (rw (ne_eqb b 0x30 n));
+  failed = λ f byte toggle s a b n. ignored f (Failed byte toggle) s a b (rw (ne_eqb b 0xF0 n));
   mended = λ f byte toggle s a i. write_in f (Failed byte toggle) s a 0xF0 i;
 }
   where
-    unheeded : (f : Flash) (byte : ℕ) (toggle : Bool) → f.state ≡ Failed byte toggle → (a b : ℕ) → (b ≡ 0xF0 → ⊥)
-        → (t : Bool) → cond t (with_state f (heeded f f.state a b)) f ≡ f
-    unheeded f byte toggle s a b n true =
-        ap (λ (x : State). with_state f (heeded f x a b)) s
-        ∙ ap (λ (t : Bool). with_state f (cond t read_mode (Failed byte toggle))) (ne_eqb b 0xF0 n)
-        ∙ ap (with_state f) (sym s)
-    unheeded f byte toggle s a b n false = refl
+    stops : (f : Flash) (e : Erase) (p : Phase) (a : ℕ) → interrupted f e p a 0xB0 ≡ Suspending e f.setup.suspend
+    stops f e Window a = refl
+    stops f e Begun a = refl
 
 pub read_laws : ReadLaws
 unfolding seen

@@ -1,21 +1,24 @@
 -- What holds of the chip whatever it is doing, in the words of the workshop. The calls' contracts name these laws; they
 -- speak of the definitions that the same contracts use.
-use Rattle.std.specs.Prelude.{◌≡◌, ℕ, ◌+◌, ◌%◌, ◌<◌, Bool, true, false, ◌||◌, length, ◌≢◌}
+use Rattle.std.specs.Prelude.{◌≡◌, ℕ, ◌+◌, ◌-◌, ◌*◌, ◌%◌, ◌<◌, ◌≤◌, Bool, true, false, ◌||◌, length, ◌≢◌, ◌==◌}
 use Rattle.geometry.specs.declared.datasheet.Commands.{Commands}
-use Rattle.geometry.specs.Sets.{bit}
+use Rattle.geometry.specs.declared.set.BlockSet.{BlockSet}
+use Rattle.geometry.specs.Blocks.{block_of}
+use Rattle.geometry.specs.Sets.{bit, has, count_of, meets}
 use Rattle.geometry.specs.Sheets.{low_bits}
-use Rattle.flash.specs.Limits.{window as open_for}
+use Rattle.flash.specs.Limits.{window as open_for, longest_erase, protected_erase}
 use Rattle.chip.specs.declared.chip.Chip.{Chip}
 use Rattle.flash.specs.declared.sequence.Mode.{Mode}
 use Rattle.flash.specs.declared.sequence.Mode.TheVariants.{Id}
 use Rattle.flash.specs.declared.sequence.Place.{Place}
 use Rattle.flash.specs.declared.sequence.Place.TheVariants.{Start, Second, Command, Data, EraseStart, EraseSecond, EraseBlock}
 use Rattle.chip.specs.declared.state.Phase.TheVariants.{Window, Erasing as Begun}
+use Rattle.chip.specs.declared.state.Program.{Program}
 use Rattle.chip.specs.declared.state.Erase.{Erase}
 use Rattle.chip.specs.declared.state.State.{State}
 use Rattle.chip.specs.declared.state.State.TheVariants.{Ready, Programming, Erasing, Suspending, Suspended, Failed}
 use Rattle.chip.specs.Setups.{in_limits}
-use Rattle.chip.specs.Flash.{Flash, view, size, commands, inside, cell, protected, worn}
+use Rattle.chip.specs.Flash.{Flash, view, blocks, size, commands, inside, cell, lies_in, protected, worn, erasable}
 use Rattle.chip.specs.Writes.{read_mode, program_time, block_alone, written}
 use Rattle.chip.specs.Reads.{seen}
 use Rattle.chip.specs.Times.{erase_time, tick, passed}
@@ -103,6 +106,24 @@ pub record WriteLaws : Type 0 where
       → (n : ℕ) → n < open_for → (g : Erase) × ((passed n (written f a 0x30)).state ≡ Erasing g) × (g.phase ≡ Window)
   pub begins : (f : Flash) (e : Erase) → f.state ≡ Erasing e → e.phase ≡ Window → (a : ℕ) → inside f a ≡ true
       → (g : Erase) × ((passed open_for (written f a 0x30)).state ≡ Erasing g) × (g.phase ≡ Begun) × (g.left ≡ erase_time f g.selected)
+  -- 30h in the window adds the block that it names to those selected, and nothing else.
+  pub adds : (f : Flash) (e : Erase) → f.state ≡ Erasing e → e.phase ≡ Window → (a : ℕ) → inside f a ≡ true
+      → (g : Erase) × ((written f a 0x30).state ≡ Erasing g) × (g.phase ≡ Window) × (g.toggle ≡ e.toggle)
+      × ((b : ℕ) → has g.selected b ≡ (has e.selected b || b == block_of (blocks f) a))
+  -- Any write in the window but 30h and B0h gives read mode, with nothing erased.
+  pub ends_window : (f : Flash) (e : Erase) → f.state ≡ Erasing e → e.phase ≡ Window → (a b : ℕ) → inside f a ≡ true
+      → (b ≢ 0x30) → (b ≢ 0xB0) → written f a b ≡ record f { state = read_mode }
+  -- A chip that programs, or is in the S microseconds before it is suspended, ignores every write.
+  pub deaf_in_program : (f : Flash) (p : Program) → f.state ≡ Programming p → (a b : ℕ) → written f a b ≡ f
+  pub deaf_in_stop : (f : Flash) (e : Erase) (wait : ℕ) → f.state ≡ Suspending e wait → (a b : ℕ) → written f a b ≡ f
+  -- In the erasing after the window it ignores every write but B0h.
+  pub deaf_in_erasing : (f : Flash) (e : Erase) → f.state ≡ Erasing e → e.phase ≡ Begun → (a b : ℕ) → (b ≢ 0xB0) → written f a b ≡ f
+  -- B0h, in the window or the erasing, begins the S microseconds; the erase is held as it is.
+  pub suspends : (f : Flash) (e : Erase) → f.state ≡ Erasing e → (a : ℕ) → inside f a ≡ true
+      → written f a 0xB0 ≡ record f { state = Suspending e f.setup.suspend }
+  -- A suspended chip goes on at 30h with exactly what was left, and ignores every other write.
+  pub goes_on : (f : Flash) (e : Erase) → f.state ≡ Suspended e → (a : ℕ) → inside f a ≡ true → written f a 0x30 ≡ record f { state = Erasing e }
+  pub deaf_in_suspension : (f : Flash) (e : Erase) → f.state ≡ Suspended e → (a b : ℕ) → (b ≢ 0x30) → written f a b ≡ f
   -- A failed chip heeds only F0h, which gives read mode.
   pub failed : (f : Flash) (byte : ℕ) (toggle : Bool) → f.state ≡ Failed byte toggle
       → (a b : ℕ) → (b ≢ 0xF0) → written f a b ≡ f
@@ -133,6 +154,28 @@ has_failed (Suspending e wait) = false
 has_failed (Suspended e) = false
 has_failed (Failed byte toggle) = true
 
+-- a chip holds an erase: in the S microseconds before it is suspended, and while it is
+pub data Holds (e : Erase) : State → Type 0 where
+  stopping : (wait : ℕ) → Holds e (Suspending e wait)
+  stopped : Holds e (Suspended e)
+
+-- An erasing has just begun: all the time that it takes is left.
+pub record Begins (f : Flash) (e : Erase) : Type 0 where
+  pub erasing : f.state ≡ Erasing e
+  pub phase : e.phase ≡ Begun
+  pub whole : e.left ≡ erase_time f e.selected
+
+-- From one chip to another the blocks of a set have become FFh throughout, no other cell has changed, and the chip is in read mode.
+pub record Erased (f : Flash) (set : BlockSet) (g : Flash) : Type 0 where
+  pub reads : g.state ≡ read_mode
+  pub ones : (a : ℕ) → inside f a ≡ true → lies_in f set a ≡ true → cell g a ≡ 0xFF
+  pub others : (a : ℕ) → lies_in f set a ≡ false → cell g a ≡ cell f a
+
+-- From one chip to another an erasing has gone on for n microseconds, and no cell has changed.
+pub record StillErasing (f : Flash) (e : Erase) (n : ℕ) (g : Flash) : Type 0 where
+  pub erasing : g.state ≡ Erasing (record e { left = e.left - n })
+  pub cells : g.cells ≡ f.cells
+
 pub record PassLaws : Type 0 where
   -- Letting n microseconds pass is n steps of one.
   pub none : (f : Flash) → passed 0 f ≡ f
@@ -147,6 +190,26 @@ pub record PassLaws : Type 0 where
       → busy (passed n f).state ≡ false → has_failed (passed n f).state ≡ false → (passed n f).state ≡ read_mode
   -- A failed chip stays so.
   pub failed : (n : ℕ) (f : Flash) → has_failed f.state ≡ true → (passed n f).state ≡ f.state
+  -- A program changes no cell but its own.
+  pub own_cell : (n : ℕ) (f : Flash) (p : Program) → f.state ≡ Programming p → (a : ℕ) → (a ≢ p.address) → cell (passed n f) a ≡ cell f a
+  -- The erase that a suspension holds stands still, window and erasing alike, however much time passes.
+  pub stands_still : (n : ℕ) (f : Flash) (e : Erase) → Holds e f.state → Holds e (passed n f).state × ((passed n f).cells ≡ f.cells)
+  -- The chip is suspended when its S microseconds are over, and not before.
+  pub suspends : (f : Flash) (e : Erase) (wait : ℕ) → f.state ≡ Suspending e wait → 1 ≤ wait
+      → ((n : ℕ) → n < wait → (passed n f).state ≡ Suspending e (wait - n)) × ((passed wait f).state ≡ Suspended e)
+  -- An erasing of c blocks, none of them worn, has erased them after c x E microseconds, and has changed nothing before.
+  pub erases : (f : Flash) (e : Erase) → Sound f → Begins f e → 1 ≤ count_of (erasable f e.selected) → meets (erasable f e.selected) f.setup.worn ≡ false
+      → ((n : ℕ) → n < count_of (erasable f e.selected) * f.setup.erase → StillErasing f e n (passed n f))
+      × Erased f (erasable f e.selected) (passed (count_of (erasable f e.selected) * f.setup.erase) f)
+  -- An erasing of c blocks, one of them worn, fails after c x 10,000,000 microseconds, and never changes a cell.
+  pub fails : (f : Flash) (e : Erase) → Begins f e → meets (erasable f e.selected) f.setup.worn ≡ true
+      → ((n : ℕ) → n < count_of (erasable f e.selected) * longest_erase → StillErasing f e n (passed n f))
+      × ((passed (count_of (erasable f e.selected) * longest_erase) f).state ≡ Failed 0xFF e.toggle)
+      × ((n : ℕ) → (passed n f).cells ≡ f.cells)
+  -- Where all selected blocks are protected the erasing lasts 50 microseconds, and changes no cell.
+  pub refuses : (f : Flash) (e : Erase) → Begins f e → count_of (erasable f e.selected) ≡ 0
+      → ((n : ℕ) → n < protected_erase → StillErasing f e n (passed n f))
+      × ((passed protected_erase f).state ≡ read_mode) × ((passed protected_erase f).cells ≡ f.cells)
 
 pub record ResetLaws : Type 0 where
   -- The reset pin gives read mode, and takes no time.
@@ -154,6 +217,8 @@ pub record ResetLaws : Type 0 where
   pub no_time : (f : Flash) → (after_reset f).clock ≡ f.clock
   pub keeps_blocks : KeepsBlocks after_reset
   pub only_clears : OnlyClears after_reset
+  -- Whatever it breaks off, no bit of a cell goes from 0 to 1.
+  pub never_sets : (f : Flash) (a b : ℕ) → bit (cell (after_reset f) a) b ≡ true → bit (cell f a) b ≡ true
 
 -- every chip is sound
 abbrev pub AllSound : Type 0

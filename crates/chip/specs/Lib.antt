@@ -4,6 +4,7 @@ pub mod Laws
 pub mod Making
 pub mod Reads
 pub mod Resets
+pub mod Runs
 pub mod Setups
 pub mod Times
 pub mod Writes

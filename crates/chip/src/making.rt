@@ -5,6 +5,7 @@ ghost use Rattle.chip.specs.Setups.{in_limits};
 ghost use Rattle.chip.specs.Flash.{view};
 ghost use Rattle.chip.specs.Making.{fresh, made, MadeOn, MadeBlank};
 ghost use Rattle.chip.specs.Laws.{AllSound};
+ghost use Rattle.chip.specs.Runs.{RunLaws};
 ghost use Rattle.chip.specs.Examples.{WorkedExamples};
 
 use crate::chip::Chip;
@@ -29,10 +30,11 @@ impl Chip {
     }
 
     /// A chip on this memory; a dead one, of size 0, where `Setup::check` refuses it.
-    #[tactic(auto, using(crate::proofs::PassLaws::all_sound, crate::proofs::Worked::worked_examples), unfolding(crate::specs::Making::made))]
+    #[tactic(auto, using(crate::proofs::PassLaws::all_sound, crate::proofs::RunLaws::run_laws, crate::proofs::Worked::worked_examples), unfolding(crate::specs::Making::made))]
     pub fn new(setup: Setup, mut memory: Vec<u8>) -> Chip
         ensures chip { view result ≡ made setup memory.items }
         ensures sound { AllSound }
+        ensures runs { RunLaws }
         ensures examples { WorkedExamples }
     {
         if setup.fits(memory.len()) {

@@ -5,8 +5,8 @@ use lib.Bits.{bit_and}
 use lib.Count.{ones}
 use Rattle.std.proofs.Math.Pow.{pow-lt}
 use Rattle.std.proofs.Math.Bool.{and-true}
-use Rattle.std.proofs.lemmas.Bool.{and_parts, eqb-true, cases_lt, false≢true, lt-ltb, le-ltb, ltb-false}
-use Rattle.std.proofs.lemmas.Nat.{zero_from_ones}
+use Rattle.std.proofs.lemmas.Bool.{and_parts, eqb-true, cases_lt, false≢true, lt-ltb, le-ltb, ltb-true, ltb-false}
+use Rattle.std.proofs.lemmas.Nat.{zero_from_ones, and_le_l}
 use Rattle.std.proofs.lemmas.Nat.Bits.{bit_at-lt, bit_at_and, bit_at_or, bit_at_xor, bit_at_ones, bit_at_ones_above, bit_at-zero, same_from_bits}
 use Rattle.std.proofs.lemmas.Bool.Decides.{nat_tests}
 use Rattle.geometry.specs.declared.set.BlockSet.{BlockSet}
@@ -86,6 +86,16 @@ count_positive set b t = elim (cases_lt 0 (ones set.mask)) [
   | inr g ↦
       let z : set.mask ≡ 0 = zero_from_ones set.mask (omega arith) in
       absurd (false≢true (sym (has_none b) ∙ ap (λ (x : ℕ). bit x b) (sym z) ∙ t))
+]
+
+-- A set that shares a block with another is not empty.
+pub count_meets : (set other : BlockSet) → meets set other ≡ true → 0 < count_of set
+count_meets set other t = elim (cases_lt 0 (ones set.mask)) [
+  | inl l ↦ l
+  | inr g ↦
+      let z : set.mask ≡ 0 = zero_from_ones set.mask (omega arith) in
+      let p : 0 < bit_and set.mask other.mask = ltb-true 0 _ t in
+      absurd (omega (arith, and_le_l set.mask other.mask))
 ]
 
 -- Sets with the same blocks are the same.
