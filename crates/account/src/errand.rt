@@ -79,11 +79,14 @@ impl<P: Part> Errand<'_, P> {
         println!(self.rt; "  The erasure of block {} begins.", self.block)?;
         self.hold()?;
         self.read_back()?;
-        let _ = self.part.go_on();
+        let goes = match self.part.go_on() {
+            Turn::Done => "goes on",
+            Turn::Nothing => "was not held",
+        };
         let since = self.part.clock();
         let ended = self.wait_for_end()?;
         println!(self.rt;
-            "  It goes on; {} us later it is {ended}.",
+            "  It {goes}; {} us later it is {ended}.",
             self.spent(since)
         )?;
         self.read_back()

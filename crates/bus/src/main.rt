@@ -4,31 +4,21 @@
 mod unserved;
 
 use chip::Chip;
-use std::io::{BufRead, BufReader};
+use std::io::{self, BufRead, BufReader};
 use std::process::ExitCode;
 use unserved::Unserved;
 use wire::{chip_named, serve};
-use workbench::{Trouble, blank_chip};
 
 // A line without its end.
 fn line_of(text: &[u8]) -> &[u8] {
     text.strip_suffix(b"\n").unwrap_or(text)
 }
 
-// A fresh chip, FFh throughout.
-fn chip_of(rt: &HostRuntime, line: &[u8]) -> Result<Chip, Unserved> {
-    match blank_chip(rt.alloc(), chip_named(line)?) {
-        Ok(chip) => Ok(chip),
-        Err(Trouble::Chip(fault)) => Err(Unserved::Refused(fault)),
-        Err(_) => Err(Unserved::Memory),
-    }
-}
-
 fn run(rt: &HostRuntime) -> Result<(), Unserved> {
     let mut reader = BufReader::new(rt.alloc(), rt.reader())?;
     let mut line = Vec::new(rt.alloc());
     reader.read_until(b'\n', &mut line)?;
-    let mut chip = chip_of(rt, line_of(line.as_slice()))?;
+    let mut chip = Chip::blank(rt.alloc(), chip_named(line_of(line.as_slice()))?)?;
     for _ in 0..u64::MAX {
         line.clear();
         if reader.read_until(b'\n', &mut line)? == 0 {
@@ -40,12 +30,12 @@ fn run(rt: &HostRuntime) -> Result<(), Unserved> {
     Ok(())
 }
 
-fn main(rt: HostRuntime) -> ExitCode {
+fn main(rt: HostRuntime) -> io::Result<ExitCode> {
     match run(&rt) {
-        Ok(()) => ExitCode::SUCCESS,
+        Ok(()) => Ok(ExitCode::SUCCESS),
         Err(unserved) => {
-            let _ = eprintln!(rt; "{unserved}");
-            ExitCode::FAILURE
+            eprintln!(rt; "{unserved}")?;
+            Ok(ExitCode::FAILURE)
         }
     }
 }

@@ -33,6 +33,15 @@ impl fmt::Display for Unserved {
     }
 }
 
+impl From<chip::Unmade> for Unserved {
+    fn from(unmade: chip::Unmade) -> Unserved {
+        match unmade {
+            chip::Unmade::Refused(fault) => Unserved::Refused(fault),
+            chip::Unmade::Memory => Unserved::Memory,
+        }
+    }
+}
+
 impl From<Wrong> for Unserved {
     fn from(wrong: Wrong) -> Unserved {
         Unserved::Unread(wrong)

@@ -2,7 +2,7 @@
 use chip::Setup;
 use console::Console;
 use driver::Driven;
-use part::{Part, Standing};
+use part::{Part, Standing, Turn};
 use workbench::{Trouble, blank_chip};
 
 // A console that is open on blank books.
@@ -61,7 +61,9 @@ pub fn eight_sets(rt: &HostRuntime, setup: Setup) -> Result<(), Trouble> {
         Standing::Suspended(block) => print!(rt; " block {block} suspended, WRONG,")?,
         Standing::Idle => print!(rt; " no erasure, WRONG,")?,
     }
-    let _ = part.hold();
+    if part.hold() == Turn::Nothing {
+        print!(rt; " not held, WRONG,")?;
+    }
     cells(rt, &mut part, &[(0x600, 0x00), (0x6C0, 0xFE)])
 }
 

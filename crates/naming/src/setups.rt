@@ -2,11 +2,12 @@
 ghost use Rattle.std.specs.Prelude.{◌≡◌};
 ghost use Rattle.words.specs.Lines.{words_of};
 ghost use Rattle.naming.specs.Taking.{Gives};
-ghost use Rattle.naming.specs.Setups.{geometry_of, geometry_at, mask_at, setup_at};
+ghost use Rattle.naming.specs.Setups.{geometry_of, geometry_at, set_at, setup_at};
 
 use crate::numbers::take_u32;
 use crate::wrong::Wrong;
 use chip::Setup;
+use geometry::BlockSet;
 use words::next_word;
 
 // The number of a geometry.
@@ -34,14 +35,20 @@ fn take_geometry(line: &[u8]) -> Result<(u8, &[u8]), Wrong>
     }
 }
 
-// The mask behind its word, where that word is next, and else 0.
-#[tactic(auto, unfolding(crate::specs::Setups::mask_at))]
-fn take_mask<'a>(name: &[u8], line: &'a [u8]) -> Result<(u32, &'a [u8]), Wrong>
-    ensures { Gives (λ x. (x.0, words_of x.1.now)) result (mask_at name.now (words_of line.now)) }
+// The blocks that the number behind their word names, bit b for block b, where that word is next, and else none.
+#[tactic(auto, unfolding(crate::specs::Setups::set_at))]
+fn take_set<'a>(name: &[u8], line: &'a [u8]) -> Result<(BlockSet, &'a [u8]), Wrong>
+    ensures { Gives (λ x. (x.0, words_of x.1.now)) result (set_at name.now (words_of line.now)) }
 {
     match next_word(line) {
-        Some((word, rest)) if word == name => take_u32(rest),
-        _ => Ok((0, line)),
+        Some((word, rest)) if word == name => {
+            let (mask, rest) = take_u32(rest)?;
+            let set = BlockSet {
+                mask: u128::from(mask),
+            };
+            Ok((set, rest))
+        }
+        _ => Ok((BlockSet::NONE, line)),
     }
 }
 
@@ -54,8 +61,8 @@ pub fn take_setup(line: &[u8]) -> Result<(Setup, &[u8]), Wrong>
     let (program, rest) = take_u32(rest)?;
     let (erase, rest) = take_u32(rest)?;
     let (suspend, rest) = take_u32(rest)?;
-    let (protected, rest) = take_mask(b"protect", rest)?;
-    let (worn, rest) = take_mask(b"worn", rest)?;
+    let (protected, rest) = take_set(b"protect", rest)?;
+    let (worn, rest) = take_set(b"worn", rest)?;
     let setup = Setup {
         kind,
         program,

@@ -8,7 +8,7 @@ mod stopped;
 
 use script::read;
 use stage::Stage;
-use std::io::{BufReader, Read};
+use std::io::{self, BufReader, Read};
 use std::process::ExitCode;
 use stopped::Stopped;
 
@@ -21,12 +21,12 @@ fn run(rt: &HostRuntime) -> Result<(), Stopped> {
     stage.play(rt, text.as_slice(), script.steps.as_slice())
 }
 
-fn main(rt: HostRuntime) -> ExitCode {
+fn main(rt: HostRuntime) -> io::Result<ExitCode> {
     match run(&rt) {
-        Ok(()) => ExitCode::SUCCESS,
+        Ok(()) => Ok(ExitCode::SUCCESS),
         Err(stopped) => {
-            let _ = eprintln!(rt; "{stopped}");
-            ExitCode::FAILURE
+            eprintln!(rt; "{stopped}")?;
+            Ok(ExitCode::FAILURE)
         }
     }
 }

@@ -5,8 +5,8 @@ ghost use Rattle.wire.specs.Replies.{done, told, Answers, Serves};
 
 use crate::reply::Reply;
 use crate::request::Request;
-use fault::ChipFault;
 use chip::Chip;
+use fault::ChipFault;
 
 impl Reply {
     // ok, or the refusal.

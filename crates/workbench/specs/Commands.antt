@@ -1,26 +1,39 @@
--- The command sequences: what each answers, and the chip after it. A chip that lacks the address 5555h refuses the first write.
-use Rattle.std.specs.Prelude.{ℕ, cond, Result}
+-- The command sequences as writes, each an address and a byte, and what a chip makes of writes in a row.
+use Rattle.std.specs.Prelude.{ℕ, if◌then◌else◌, List, [], ◌∷◌, ◌++◌, Ok, Err, Result}
+use Rattle.fault.specs.declared.cause.Cause.TheVariants.{AddressOutside}
 use Rattle.fault.specs.declared.faults.ChipFault.{ChipFault}
+use Rattle.geometry.specs.declared.datasheet.Commands.{Commands}
 use Rattle.chip.specs.Flash.{Flash, inside}
-use Rattle.chip.specs.Writes.{heard, written}
-use Rattle.chip.specs.Laws.{unlocked}
+use Rattle.chip.specs.Writes.{written}
 
--- what a sequence answers that ends with a write at this address
-abbrev pub sequence_heard : Flash → ℕ → Result (Unit {0}) ChipFault
-sequence_heard f a = cond (inside f 0x5555) (heard f a) (heard f 0x5555)
+pub record Write : Type 0 where
+  pub address : ℕ
+  pub byte : ℕ
+
+abbrev pub write : ℕ → ℕ → Write
+write a byte = record { address = a; byte = byte }
 
 -- the two unlocking writes
-abbrev pub after_unlock : Flash → Flash
-after_unlock f = cond (inside f 0x5555) (unlocked f 0x5555 0x2AAA) f
+abbrev pub unlock : Commands → List Write
+unlock c = write c.first 0xAA ∷ write c.second 0x55 ∷ []
 
 -- a command of three writes
-abbrev pub after_command : Flash → ℕ → Flash
-after_command f byte = cond (inside f 0x5555) (written (unlocked f 0x5555 0x2AAA) 0x5555 byte) f
+abbrev pub command : Commands → ℕ → List Write
+command c byte = unlock c ++ write c.first byte ∷ []
 
 -- the four writes that program a byte
-abbrev pub after_program : Flash → ℕ → ℕ → Flash
-after_program f a byte = cond (inside f 0x5555) (written (after_command f 0xA0) a byte) f
+abbrev pub program : Commands → ℕ → ℕ → List Write
+program c a byte = command c 0xA0 ++ write a byte ∷ []
 
 -- the six writes that erase the block of an address
-abbrev pub after_erase : Flash → ℕ → Flash
-after_erase f a = cond (inside f 0x5555) (written (unlocked (after_command f 0x80) 0x5555 0x2AAA) a 0x30) f
+abbrev pub erase : Commands → ℕ → List Write
+erase c a = command c 0x80 ++ unlock c ++ write a 0x30 ∷ []
+
+-- Writes in a row end at the first that is refused, which is at an address outside.
+abbrev pub all_heard : Flash → List Write → Result (Unit {0}) ChipFault
+all_heard f [] = Ok tt
+all_heard f (w ∷ ws) = if inside f w.address then all_heard f ws else Err (record { cause = AddressOutside; place = w.address })
+
+abbrev pub all_written : Flash → List Write → Flash
+all_written f [] = f
+all_written f (w ∷ ws) = if inside f w.address then all_written (written f w.address w.byte) ws else f

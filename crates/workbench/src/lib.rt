@@ -1,10 +1,10 @@
 //! What the programs of the workbench share.
 #![tactic(auto)]
 
-mod blank;
+mod bench_chip;
 mod commands;
 mod trouble;
 
-pub use blank::{BENCH_CHIP, blank_array, blank_chip};
+pub use bench_chip::BENCH_CHIP;
 pub use commands::{command, erase, program};
 pub use trouble::Trouble;

@@ -1,5 +1,6 @@
 ghost use Rattle.std.specs.Prelude.{◌≡◌};
 ghost use Rattle.workbench.specs.declared.trouble.Trouble.TheVariants.{Chip, Part, Console, Memory, Output};
+ghost use Rattle.workbench.specs.Troubles.{no_chip, no_array};
 
 use fault::{ChipFault, ConsoleFault, PartFault};
 use std::alloc::AllocError;
@@ -14,7 +15,7 @@ pub enum Trouble {
     Part(PartFault),
     /// A console refused a call.
     Console(ConsoleFault),
-    /// There was no memory for a chip's cells.
+    /// There was no memory.
     Memory,
     /// The output could not be written.
     Output(io::Error),
@@ -45,6 +46,28 @@ impl From<ConsoleFault> for Trouble {
 
     fn from(fault: ConsoleFault) -> Trouble {
         Trouble::Console(fault)
+    }
+}
+
+impl From<chip::Unmade> for Trouble {
+    ghost from_gives = { λ e r. r ≡ no_chip e };
+
+    fn from(unmade: chip::Unmade) -> Trouble {
+        match unmade {
+            chip::Unmade::Refused(fault) => Trouble::Chip(fault),
+            chip::Unmade::Memory => Trouble::Memory,
+        }
+    }
+}
+
+impl From<array::Unmade> for Trouble {
+    ghost from_gives = { λ e r. r ≡ no_array e };
+
+    fn from(unmade: array::Unmade) -> Trouble {
+        match unmade {
+            array::Unmade::Refused(fault) => Trouble::Part(fault),
+            array::Unmade::Memory => Trouble::Memory,
+        }
     }
 }
 
