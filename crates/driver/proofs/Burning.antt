@@ -1,151 +1,171 @@
--- A burn and a beginning of a driven chip, in the words of a part.
-use Rattle.std.proofs.Common.{◌≡◌, ℕ, ◌+◌, ◌^◌, ◌<◌, ◌≤◌, Bool, true, false, cond, not, ◌&&◌, ltb, length, get_or, Some, None, sym, refl, ap, ◌∙◌, subst, inl, inr, arith, lit≤}
-use Rattle.std.proofs.lemmas.List.{get_or_past}
-use Rattle.std.proofs.lemmas.Bool.{ltb-true, lt-ltb, ltb-false, cases_Bool, cond-true, cond-false, cond_both, true≢false}
-use Rattle.geometry.specs.Blocks.{bit, block_of}
-use Rattle.geometry.specs.declared.block.Block.{Block}
-use Rattle.geometry.specs.Plans.{Plan, plan_of, block_at}
-use Rattle.geometry.proofs.Placing.{every_plan, every_block, every_few}
-use Rattle.chip.specs.declared.state.Phase.TheVariants.{Window}
-use Rattle.chip.specs.declared.state.State.TheVariants.{Erasing}
-use Rattle.chip.specs.Flash.{Flash, with_state, blocks, inside, protected}
-use Rattle.chip.specs.Flash as flash
-use Rattle.chip.specs.Writes.{read_mode, block_mask}
-use Rattle.chip.specs.Times.{erase_time}
-use Rattle.chip.specs.Laws.{Sound}
-use Rattle.chip.proofs.Limits.{limits}
-use Rattle.part.specs.declared.answers.Standing.{Standing}
-use Rattle.part.specs.declared.answers.Standing.TheVariants.{Idle, Running, Suspended as Held}
-use Rattle.part.specs.Meaning.{block, worn}
-use Rattle.part.specs.Calls.{stands, begin_no, Started}
-use Rattle.part.proofs.Granting.{erasable}
-use Rattle.driver.specs.Driven.{marks, erasure_in, meaning, tied}
-use Rattle.driver.specs.Steps.{Burns, Programmed}
-use Rattle.driver.specs.Work.{Clear, programmed}
-use Rattle.driver.proofs.OneBlock.{erase_time_one}
-use Rattle.driver.specs.Tying.{when_idle, mark_at, starts, is_good}
-use Rattle.driver.proofs.Reading.{inside_is}
+-- A burn, in the words of a part.
+use Rattle.std.proofs.Common.{◌≡◌, ℕ, ◌+◌, ◌%◌, Bool, true, false, cond, not, eqb, length, set, Some, None, Ok, Err, Option, sym, refl, ap, ◌∙◌, subst, inl, inr, arith, lit≤}
+use Rattle.std.proofs.lemmas.Bool.{cases_Bool, cond-true, cond-false}
+use Rattle.fault.specs.declared.cause.Cause.{Cause}
+use Rattle.fault.specs.declared.cause.Cause.TheVariants.{ErasureInTheWay, Guarded, NeedsErase, Worn}
+use Rattle.fault.specs.Causes.{number_of}
+use Rattle.fault.specs.Limits.{needs_erase}
+use Rattle.geometry.specs.Sets.{has}
+use Rattle.part.specs.Meaning.{Erasure, Meaning, cell, block, guarded, worn, with_cells, ticked}
+use Rattle.part.specs.Calls.{answer, bars, outside, burn_no, Refused, BurntBy}
+use Rattle.part.specs.Standings.{barred, burn_why}
+use Rattle.driver.specs.declared.notes.Notes.{Notes}
+use Rattle.driver.specs.Rig.{Doing, resting, start, Rig, later, SameChip, inside, erasure_in, meaning, program_time}
+use Rattle.driver.specs.Cycles.{Burnable, Shows}
+use Rattle.driver.specs.Sound.{Sound}
+use Rattle.driver.specs.Notes.{agrees, Tied}
+use Rattle.driver.specs.Calls.{Burns}
+use Rattle.driver.specs.Steps.{Programs}
+use Rattle.driver.proofs.Changing.{same_cycle, same_more, only_read}
+use Rattle.driver.proofs.Reading.{bars_is, same_means, within_is, free_read}
 
--- where nothing stands, the driver knows of nothing
-pub idle_is : (f : Flash) (st : Standing) → stands (erasure_in f st) ≡ false → st ≡ Idle
-idle_is f Idle e = refl
-idle_is f (Running b) e = absurd (true≢false e)
-idle_is f (Held b) e = absurd (true≢false e)
+-- what is left to be checked once nothing else refuses a burn
+abbrev or_worn : Option Cause → Bool → Option Cause
+or_worn (Some cause) w = Some cause
+or_worn None w = cond w (Some Worn) None
 
--- a block's marks are the bits of the chip's masks
-pub marked : (f : Flash) (mask b : ℕ) → b < length (blocks f) → get_or (marks 0 (length (blocks f)) mask) b false ≡ bit mask b
-marked f mask b l =
-    let z : 0 + b ≡ b = omega arith in
-    mark_at 0 (length (blocks f)) mask b
-    ∙ ap (λ (k : ℕ). ltb b (length (blocks f)) && bit mask k) z
-    ∙ ap (λ (t : Bool). t && bit mask b) (lt-ltb b (length (blocks f)) l)
+tests : (t u v w : Bool) → cond t (Some ErasureInTheWay) (cond u (Some Guarded) (cond v (Some NeedsErase) (cond w (Some Worn) None)))
+    ≡ or_worn (cond t (Some ErasureInTheWay) (cond u (Some Guarded) (cond v (Some NeedsErase) None))) w
+tests true u v w = refl
+tests false true v w = refl
+tests false false true w = refl
+tests false false false w = refl
 
-pub at_block : (f : Flash) (mask a : ℕ) → inside f a ≡ true
-    → get_or (marks 0 (length (blocks f)) mask) (block_of (blocks f) a) false ≡ bit mask (block_of (blocks f) a)
-at_block f mask a i = marked f mask (block_of (blocks f) a) (every_block f.setup.kind a (ltb-true _ _ i))
+no_is : (m : Meaning) (a old byte : ℕ) → outside m a ≡ false → (bars m (block m a) ≡ false → old ≡ cell m a)
+    → burn_no m a byte ≡ or_worn (burn_why (bars m (block m a)) (guarded m (block m a)) old byte) (worn m (block m a))
+no_is m a old byte o same =
+    cond-false (outside m a) _ _ o ∙ elim (cases_Bool (bars m (block m a))) [
+      | inl b ↦ cond-true (bars m (block m a)) _ _ b
+          ∙ sym (ap (λ (c : Option Cause). or_worn c (worn m (block m a))) (cond-true (bars m (block m a)) _ _ b))
+      | inr b ↦
+          ap (λ (n : ℕ). cond (bars m (block m a)) (Some ErasureInTheWay) (cond (guarded m (block m a)) (Some Guarded) (cond (needs_erase n byte) (Some NeedsErase) (cond (worn m (block m a)) (Some Worn) None)))) (sym (same b))
+          ∙ tests (bars m (block m a)) (guarded m (block m a)) (needs_erase old byte) (worn m (block m a))
+    ]
 
-module _ (f : Flash) (st : Standing) (s : Sound f) (t : tied f st ≡ true) (a byte : ℕ) (k : Burns (meaning f st) a byte) where
-  pub burn_ready : f.state ≡ read_mode
-  burn_ready = when_idle f st t (idle_is f st k.free)
+-- these causes are not 8
+small : (t u : Bool) (old byte : ℕ) (c : Cause) → burn_why t u old byte ≡ Some c → eqb (number_of c) 8 ≡ false
+small t u old byte c e = by t u (needs_erase old byte) e
+  where
+    by : (t u v : Bool) → cond t (Some ErasureInTheWay) (cond u (Some Guarded) (cond v (Some NeedsErase) None)) ≡ Some c → eqb (number_of c) 8 ≡ false
+    by true u v e = let s : ErasureInTheWay ≡ c = cc in ap (λ (x : Cause). eqb (number_of x) 8) (sym s)
+    by false true v e = let s : Guarded ≡ c = cc in ap (λ (x : Cause). eqb (number_of x) 8) (sym s)
+    by false false true e = let s : NeedsErase ≡ c = cc in ap (λ (x : Cause). eqb (number_of x) 8) (sym s)
+    by false false false e = let z : ◌≡◌ {A = ℕ} 0 1 = cc in absurd (omega arith)
 
-  burn_inside : inside f a ≡ true
-  burn_inside = inside_is f st s t a k.within
+passed : (t u : Bool) (old byte : ℕ) → burn_why t u old byte ≡ None → (t ≡ false) × (u ≡ false) × (needs_erase old byte ≡ false)
+passed t u old byte e = by t u (needs_erase old byte) e
+  where
+    by : (t u v : Bool) → cond t (Some ErasureInTheWay) (cond u (Some Guarded) (cond v (Some NeedsErase) None)) ≡ None → (t ≡ false) × (u ≡ false) × (v ≡ false)
+    by true u v e = let z : ◌≡◌ {A = ℕ} 0 1 = cc in absurd (omega arith)
+    by false true v e = let z : ◌≡◌ {A = ℕ} 0 1 = cc in absurd (omega arith)
+    by false false true e = let z : ◌≡◌ {A = ℕ} 0 1 = cc in absurd (omega arith)
+    by false false false e = (refl, refl, refl)
 
-  pub burn_clear : Clear f a byte
-  burn_clear = record {
-    within = burn_inside;
-    unprotected = sym (at_block f f.setup.protected a burn_inside) ∙ k.unguarded;
-    clears = k.clears;
-  }
+module _ (r k : Rig) (n : Notes) (a old byte : ℕ) (sound : Sound r) (t : Tied r n) (i : inside r.sheet a ≡ true) (x : Shows r a old k) where
+  abbrev m : Meaning
+  m = meaning r
 
-  worn_is : worn (meaning f st) (block (meaning f st) a) ≡ flash.worn f a
-  worn_is = at_block f f.setup.worn a burn_inside
+  abbrev b : ℕ
+  b = block m a
 
-  pub burn_tied : (g : Flash) → g ≡ programmed f a byte → tied g st ≡ true
-  burn_tied g e =
-      ap (λ (x : Flash). tied x st) e ∙ ap (tied (programmed f a byte)) (idle_is f st k.free)
-      ∙ cond_both (flash.worn f a) _ _ (λ (x : Flash). tied x Idle ≡ true) (λ _. refl) (λ _. refl)
+  -- why the driver refuses
+  abbrev why : Option Cause
+  why = burn_why (barred n.standing b) (has n.guards b) old byte
 
-  pub burn_setup : (g : Flash) → g ≡ programmed f a byte → g.setup ≡ f.setup
-  burn_setup g e = ap (λ (x : Flash). x.setup) e ∙ cond_both (flash.worn f a) _ _ (λ (x : Flash). x.setup ≡ f.setup) (λ _. refl) (λ _. refl)
+  why_is : why ≡ burn_why (bars m b) (guarded m b) old byte
+  why_is = ap (λ (u : Bool). burn_why u (has n.guards b) old byte) (bars_is r n b t) ∙ ap (λ (u : Bool). burn_why (bars m b) u old byte) (t.knows b)
 
-  pub burn_means : (r : Bool) (g : Flash) → r ≡ not (flash.worn f a) → g ≡ programmed f a byte
-      → Programmed (meaning f st) a byte r (meaning g st)
-  burn_means r g e d =
-      subst (λ (x : Standing). Programmed (meaning f x) a byte r (meaning g x)) (sym (idle_is f st k.free)) (
-      elim (cases_Bool (flash.worn f a)) [
-        | inl w ↦
-            subst (λ (x : Bool). Programmed (meaning f Idle) a byte x (meaning g Idle)) (sym (e ∙ ap not w)) (
-              worn_is ∙ w,
-              record { time = 300; low = lit≤ tt; high = lit≤ tt; is = ap (λ (x : Flash). meaning x Idle) (d ∙ cond-true (flash.worn f a) _ _ w) },
-            )
-        | inr w ↦
-            subst (λ (x : Bool). Programmed (meaning f Idle) a byte x (meaning g Idle)) (sym (e ∙ ap not w)) (
-              worn_is ∙ w,
-              record {
-                time = f.setup.program;
-                low = (limits f.setup s.limits).program_low;
-                high = (limits f.setup s.limits).program_high;
-                is = ap (λ (x : Flash). meaning x Idle) (d ∙ cond-false (flash.worn f a) _ _ w);
-              },
-            )
-      ])
+  burn_no_is : burn_no m a byte ≡ or_worn why (worn m b)
+  burn_no_is =
+      no_is m a old byte (within_is r a sound i) (λ free. (free_read r k n a old t x free).cell)
+      ∙ ap (λ (c : Option Cause). or_worn c (worn m b)) (sym why_is)
 
--- the start of a block that there is not is 0
-no_block : (p : Plan) (b : ℕ) → block_at p b ≡ None → length p.sizes ≤ b
-no_block p b e = elim (cases_Bool (ltb b (length p.sizes))) [
-  | inl t ↦
-      let x : Block = record { start = get_or p.starts b 0; size = get_or p.sizes b 0 } in
-      let g : block_at p b ≡ Some x = cond-true (ltb b (length p.sizes)) (Some x) None t in
-      let z : ◌≡◌ {A = ℕ} 0 1 = cc in absurd (omega arith)
-  | inr t ↦ ltb-false b (length p.sizes) t
-]
-
-pub no_start : (kind b : ℕ) → block_at (plan_of kind) b ≡ None → get_or (plan_of kind).starts b 0 ≡ 0
-no_start kind b e =
-    let n : length (plan_of kind).starts ≡ length (plan_of kind).sizes = every_plan (λ (p : Plan). length p.starts ≡ length p.sizes) refl refl refl refl kind in
-    get_or_past (plan_of kind).starts b 0 (omega (arith, no_block (plan_of kind) b e))
-
-module _ (f : Flash) (st : Standing) (s : Sound f) (t : tied f st ≡ true) (b : ℕ) (no : begin_no (meaning f st) b ≡ None) where
-  private_facts : (b < length (blocks f)) × (st ≡ Idle) × (bit f.setup.protected b ≡ false)
-  private_facts =
-      let e = erasable (meaning f st) b no in
-      (e.within, idle_is f st e.free, sym (marked f f.setup.protected b e.within) ∙ e.open_block)
-
-  pub begin_ready : f.state ≡ read_mode
-  begin_ready = when_idle f st t private_facts.1
-
-  abbrev at : ℕ
-  at = get_or (plan_of f.setup.kind).starts b 0
-
-  pub begin_inside : inside f at ≡ true
-  begin_inside = (starts f b private_facts.0).within
-
-  abbrev begun : Flash
-  begun = with_state f (Erasing (record { phase = Window; selected = block_mask f at; left = 50; toggle = false }))
-
-  mask_is : block_mask f at ≡ 2 ^ b
-  mask_is = ap (λ (k : ℕ). 2 ^ k) (starts f b private_facts.0).block
-
-  pub begin_tied : (g : Flash) → g ≡ begun → tied g (Running b) ≡ true
-  begin_tied g e =
-      ap (λ (x : Flash). tied x (Running b)) e
-      ∙ is_good f b (record { phase = Window; selected = block_mask f at; left = 50; toggle = false })
-      (record { within = private_facts.0; unprotected = private_facts.2; selected = mask_is; lasts = lit≤ tt })
-
-  pub begin_means : (g : Flash) → g ≡ begun → Started (meaning f st) b (meaning g (Running b))
-  begin_means g e =
-      let few : b < 11 = omega (arith, private_facts.0, every_few f.setup.kind) in
-      let l = limits f.setup s.limits in
-      let n : erase_time f (block_mask f at) ≡ cond (bit f.setup.worn b) 10000000 f.setup.erase =
-      ap (erase_time f) mask_is ∙ erase_time_one f b few private_facts.2 in
-      let low : 1 ≤ erase_time f (block_mask f at) =
-      subst (λ (k : ℕ). 1 ≤ k) (sym n) (cond_both (bit f.setup.worn b) _ _ (λ (k : ℕ). 1 ≤ k) (λ _. lit≤ tt) (λ _. l.erase_low)) in
-      let high : erase_time f (block_mask f at) ≤ 10000000 =
-      subst (λ (k : ℕ). k ≤ 10000000) (sym n) (cond_both (bit f.setup.worn b) _ _ (λ (k : ℕ). k ≤ 10000000) (λ _. lit≤ tt) (λ _. l.erase_high)) in
+  pub burn_refused : (c : Cause) → why ≡ Some c → Burns r a byte (Err (record { cause = c; place = a })) k
+  burn_refused c e =
+      let no : burn_no m a byte ≡ Some c = burn_no_is ∙ ap (λ (o : Option Cause). or_worn o (worn m b)) e in
+      let not_worn : eqb (number_of c) 8 ≡ false = small (bars m b) (guarded m b) old byte c (sym why_is ∙ e) in
+      let z : (r.clock + 0) % 4294967296 ≡ r.clock = omega (arith, sound.clock) in
       record {
-        left = 50 + erase_time f (block_mask f at);
-        low = omega arith;
-        high = omega arith;
-        is = ap (λ (x : Flash). meaning x (Running b)) e;
+        answer = sym (ap (λ (o : Option Cause). answer o a tt) no);
+        burnt =
+            subst (λ (o : Option Cause). BurntBy m a byte o (meaning k)) (sym no)
+            (subst (λ (u : Bool). Refused u m (meaning k)) (sym not_worn) (same_means r k a old x));
+        time =
+            ap (λ (y : Meaning). y.clock) (same_means r k a old x) ∙ sym z
+            ∙ ap (λ (d : ℕ). (r.clock + d) % 4294967296) (sym (cond-false (eqb (number_of c) 8) 300 0 not_worn));
+        chip = same_cycle r k (only_read r k a old x);
       }
+
+  pub burn_free : why ≡ None → (Burnable k a byte) × (k ≡ r) × (r.doing ≡ resting None start)
+  burn_free e =
+      let p = passed (bars m b) (guarded m b) old byte (sym why_is ∙ e) in
+      let f = free_read r k n a old t x p.0 in
+      let c : needs_erase (cell m a) byte ≡ false = ap (λ (d : ℕ). needs_erase d byte) (sym f.cell) ∙ p.2 in
+      (subst (λ (y : Rig). Burnable y a byte) (sym f.same) (record { within = i; unguarded = p.1; clears = c }), f.same, f.rests)
+
+  -- what the program leaves
+  module _ (e : why ≡ None) (s : Rig) (ok : Bool) (p : Programs k a byte ok s) where
+    result : (ok ≡ not (worn m b)) × (s ≡ later r (program_time r a) (cond (worn m b) r.cells (set r.cells a byte)) (resting None start))
+    result =
+        let f = burn_free e in
+        let q = p.done f.0 (ap (λ (y : Rig). y.doing) f.1 ∙ f.2) in
+        let P : Rig → Type 0 = λ y. (ok ≡ not (worn (meaning y) (block (meaning y) a)))
+        × (s ≡ later y (program_time y a) (cond (worn (meaning y) (block (meaning y) a)) y.cells (set y.cells a byte)) (resting None start)) in
+        subst P f.1 q
+
+    same_chip : SameChip r s
+    same_chip = same_more r k s (same_cycle r k (only_read r k a old x)) p.same
+
+    none_stands : erasure_in r.doing ≡ None
+    none_stands = ap erasure_in (burn_free e).2
+
+    means : (w : Bool) → worn m b ≡ w → (d : ℕ) → cond w 300 r.program ≡ d → meaning s ≡ ticked (with_cells m (cond w r.cells (set r.cells a byte))) d
+    means w h d g =
+        ap meaning result.1
+        ∙ ap (λ (u : Bool). meaning (later r (cond u 300 r.program) (cond u r.cells (set r.cells a byte)) (resting None start))) h
+        ∙ ap (λ (y : ℕ). meaning (later r y (cond w r.cells (set r.cells a byte)) (resting None start))) g
+        ∙ ap (λ (o : Option Erasure). record (ticked (with_cells m (cond w r.cells (set r.cells a byte))) d) { erasure = o }) (sym none_stands)
+
+    pub burn_done : ok ≡ true → Burns r a byte (Ok tt) s
+    burn_done h =
+        let good : worn m b ≡ false = by (worn m b) (sym h ∙ result.0) in
+        let no : burn_no m a byte ≡ None = burn_no_is ∙ ap (λ (o : Option Cause). or_worn o (worn m b)) e ∙ cond-false (worn m b) _ _ good in
+        let is = means false good r.program refl in
+        record {
+          answer = sym (ap (λ (o : Option Cause). answer o a tt) no);
+          burnt =
+              subst (λ (o : Option Cause). BurntBy m a byte o (meaning s)) (sym no)
+              (record { time = r.program; low = sound.program_least; high = sound.program_most; is = is });
+          time = ap (λ (y : Meaning). y.clock) is;
+          chip = same_chip;
+        }
+      where
+        by : (w : Bool) → true ≡ not w → w ≡ false
+        by true z = z
+        by false z = refl
+
+    pub burn_worn : ok ≡ false → Burns r a byte (Err (record { cause = Worn; place = a })) s
+    burn_worn h =
+        let bad : worn m b ≡ true = by (worn m b) (sym h ∙ result.0) in
+        let no : burn_no m a byte ≡ Some Worn = burn_no_is ∙ ap (λ (o : Option Cause). or_worn o (worn m b)) e ∙ cond-true (worn m b) _ _ bad in
+        let is = means true bad 300 refl in
+        record {
+          answer = sym (ap (λ (o : Option Cause). answer o a tt) no);
+          burnt =
+              subst (λ (o : Option Cause). BurntBy m a byte o (meaning s)) (sym no)
+              (record { time = 300; low = lit≤ tt; high = lit≤ tt; is = is });
+          time = ap (λ (y : Meaning). y.clock) is;
+          chip = same_chip;
+        }
+      where
+        by : (w : Bool) → false ≡ not w → w ≡ true
+        by true z = refl
+        by false z = z
+
+    pub burn_tied : Tied s n
+    burn_tied = record {
+      knows = λ c. t.knows c ∙ sym (ap (λ (y : Rig). guarded (meaning y) c) result.1);
+      follows =
+          ap (λ (y : Rig). agrees (length y.sheet.sizes) y.doing n.standing) result.1
+          ∙ ap (λ (d : Doing). agrees (length r.sheet.sizes) d n.standing) (sym (burn_free e).2) ∙ t.follows;
+    }

@@ -1,94 +1,152 @@
--- One poll of a chip that programs: one microsecond, then one read.
-use Rattle.std.proofs.Common.{◌≡◌, ℕ, ◌+◌, ◌-◌, ◌<◌, ◌≤◌, max, Bool, true, false, cond, not, length, get_or, set, Some, refl, ap, ◌∙◌, arith, lit≤}
-use lib.Bits.{bit_and}
+-- The polls of a program, up to its end.
+use Rattle.std.proofs.Common.{◌≡◌, ℕ, ◌+◌, ◌-◌, ◌<◌, ◌≤◌, Bool, true, false, cond, not, List, length, set, None, sym, refl, ap, ◌∙◌, subst, inl, inr, arith, lit≤}
 use Rattle.std.proofs.lemmas.List.{get_or-set_same}
-use Rattle.std.proofs.lemmas.Bool.{eqb-true, not-false, cond-true, cond-false, ltb-true}
-use Rattle.chip.specs.declared.state.State.TheVariants.{Failed as Broken}
-use Rattle.chip.specs.Flash.{Flash, with_state, with_cells, inside, cell, protected, worn}
-use Rattle.chip.specs.Writes.{read_mode}
-use Rattle.chip.specs.Reads.{shown, flipped, answered, seen}
-use Rattle.chip.specs.Times.{ended, steps}
-use Rattle.chip.specs.Laws.{Sound}
-use Rattle.chip.proofs.Passing.{until, over}
+use Rattle.std.proofs.lemmas.Bool.{cases_lt, cases_Bool, cond-true, cond-false, cond_both, ltb-true}
+use Rattle.part.specs.Meaning.{block, worn}
+use Rattle.driver.specs.declared.verdict.Verdict.{Verdict}
 use Rattle.driver.specs.declared.verdict.Verdict.TheVariants.{Busy, Done, Failed}
-use Rattle.driver.specs.Status.{judged, byte_of}
-use Rattle.driver.specs.Work.{moved, polled, poll_verdict, Clear, programs}
-use Rattle.driver.proofs.Moving.{after_moved, seen_moved, answered_moved}
+use Rattle.driver.specs.Rig.{Burn, Doing, resting, programming, failed, start, Rig, does, later, SameChip, meaning, program_time}
+use Rattle.driver.specs.Status.{judged}
+use Rattle.driver.specs.Cycles.{Burnable, Heeds, Shows, Elapses}
+use Rattle.driver.specs.Sound.{Sound}
+use Rattle.driver.specs.Steps.{Polls}
 use Rattle.driver.proofs.Judging.{judged_busy, judged_failed, judged_done}
+use Rattle.driver.proofs.Changing.{later_more, still_read, same_more, same_cycle, same_later, only_read}
 
--- a read in range
-pub see_in : (f : Flash) (a : ℕ) → inside f a ≡ true → seen f a ≡ with_state f (flipped f.state)
-unfolding seen
-see_in f a i = cond-true (inside f a) _ _ i
+-- a byte that is being programmed, with so much left
+abbrev pub burn : ℕ → ℕ → ℕ → Bool → Burn
+burn a byte left toggle = record { address = a; byte = byte; left = left; toggle = toggle }
 
-pub answer_in : (f : Flash) (a : ℕ) → inside f a ≡ true → byte_of (answered f a) ≡ shown f f.state a
-unfolding answered
-answer_in f a i = ap byte_of (cond-true (inside f a) _ _ i)
+-- What one poll finds: the program goes on, is done, or has failed.
+pub data Found (r : Rig) (a byte i : ℕ) (v : Verdict) (s : Rig) : Type 0 where
+  goes_on : v ≡ Busy → i + 1 < program_time r a → (t : Bool)
+      → s ≡ later r (i + 1) r.cells (programming (burn a byte (program_time r a - (i + 1)) t) None) → Found r a byte i v s
+  done : v ≡ Done → worn (meaning r) (block (meaning r) a) ≡ false
+      → s ≡ later r (program_time r a) (set r.cells a byte) (resting None start) → Found r a byte i v s
+  broken : v ≡ Failed → worn (meaning r) (block (meaning r) a) ≡ true → (t : Bool)
+      → s ≡ later r (program_time r a) r.cells (failed (r.sheet.zone (block (meaning r) a)) byte t None) → Found r a byte i v s
 
--- A poll of a chip on whose count i microseconds are moved.
-pub polled_is : (f : Flash) (i a : ℕ) → polled (moved f i) a ≡ moved (seen (steps 1 f) a) (i + 1)
-polled_is f i a = ap (λ (g : Flash). seen g a) (after_moved 1 f i (lit≤ tt)) ∙ seen_moved (steps 1 f) (i + 1) a
+module _ (r : Rig) (a byte : ℕ) (small : byte < 256) (sound : Sound r) (k : Burnable r a byte) (i : ℕ) (t : Bool) where
+  abbrev span : ℕ
+  span = program_time r a
 
-pub verdict_is : (f : Flash) (i a wanted : ℕ) → poll_verdict (moved f i) a wanted ≡ judged (byte_of (answered (steps 1 f) a)) wanted
-verdict_is f i a wanted =
-    ap (λ (g : Flash). judged (byte_of (answered g a)) wanted) (after_moved 1 f i (lit≤ tt))
-    ∙ ap (λ r. judged (byte_of r) wanted) (answered_moved (steps 1 f) (i + 1) a)
+  -- the chip after i polls
+  abbrev on : Rig
+  on = later r i r.cells (programming (burn a byte (span - i) t) None)
 
-module _ (f : Flash) (a byte : ℕ) (small : byte < 256) (k : Clear f a byte) where
-  -- more than one microsecond was left
-  pub busy_state : (left : ℕ) (t : Bool) → 2 ≤ left → steps 1 (programs f a byte left t) ≡ programs f a byte (left - 1) t
-  busy_state left t h =
-      let m : max 1 left ≡ left = omega arith in
-      until 1 left (programs f a byte left t) (ap Some m) (omega arith)
+  clear : Burnable on a byte
+  clear = record { within = k.within; unguarded = k.unguarded; clears = k.clears }
 
-  pub busy_poll : (left : ℕ) (t : Bool) (i : ℕ) → 2 ≤ left
-      → (polled (moved (programs f a byte left t) i) a ≡ moved (programs f a byte (left - 1) (not t)) (i + 1))
-      × (poll_verdict (moved (programs f a byte left t) i) a byte ≡ Busy)
-  busy_poll left t i h =
-      let g : Flash = programs f a byte (left - 1) t in (
-        polled_is (programs f a byte left t) i a
-            ∙ ap (λ (x : Flash). moved (seen x a) (i + 1)) (busy_state left t h)
-            ∙ ap (λ (x : Flash). moved x (i + 1)) (see_in g a k.within),
-        verdict_is (programs f a byte left t) i a byte
-            ∙ ap (λ (x : Flash). judged (byte_of (answered x a)) byte) (busy_state left t h)
-            ∙ ap (λ (x : ℕ). judged x byte) (answer_in g a k.within)
-            ∙ judged_busy byte small t false,
-      )
+  -- more than one microsecond is left
+  busy : (w s : Rig) (seen : ℕ) → 1 < span - i → Elapses on 1 w → Shows w a seen s → (v : Verdict) → v ≡ judged seen byte → Found r a byte i v s
+  busy w s seen h e x v is =
+      let left : span - i - 1 ≡ span - (i + 1) = omega arith in
+      let d : Doing = programming (burn a byte (span - (i + 1)) t) None in
+      let w_is : w ≡ later r (i + 1) r.cells d =
+      e.programs (burn a byte (span - i) t) None refl h
+      ∙ later_more r i 1 r.cells r.cells (programming (burn a byte (span - i) t) None) (programming (burn a byte (span - i - 1) t) None)
+      ∙ ap (λ (n : ℕ). later r (i + 1) r.cells (programming (burn a byte n t) None)) left in
+      let P : Rig → Type 0 = λ y. Shows y a seen s → Found r a byte i v s in
+      subst P (sym w_is)
+      (λ z. let q = z.programs (burn a byte (span - (i + 1)) t) None refl refl in
+      goes_on (is ∙ judged_busy seen byte small t q.0) (omega arith) (not t) q.1) x
 
   -- the last microsecond
-  last_state : (t : Bool) → steps 1 (programs f a byte 1 t) ≡ ended (programs f a byte 1 t) (programs f a byte 1 t).state
-  last_state t = over 1 (programs f a byte 1 t) refl
+  last_failed : (w s : Rig) (seen : ℕ) → i < span → span - i ≤ 1 → worn (meaning r) (block (meaning r) a) ≡ true
+      → Elapses on 1 w → Shows w a seen s → (v : Verdict) → v ≡ judged seen byte → Found r a byte i v s
+  last_failed w s seen l h bad e x v is =
+      let n : i + 1 ≡ span = omega arith in
+      let zone : ℕ = r.sheet.zone (block (meaning r) a) in
+      let w_is : w ≡ later r span r.cells (failed zone byte t None) =
+      e.burns_not (burn a byte (span - i) t) None refl clear h (lit≤ tt) bad
+      ∙ later_more r i 1 r.cells r.cells (programming (burn a byte (span - i) t) None) (failed zone byte t None)
+      ∙ ap (λ (m : ℕ). later r m r.cells (failed zone byte t None)) n in
+      let P : Rig → Type 0 = λ y. Shows y a seen s → Found r a byte i v s in
+      subst P (sym w_is)
+      (λ z. let q = z.has_failed zone byte t None refl refl in
+      broken (is ∙ judged_failed seen byte small t q.0) bad (not t) q.1) x
 
-  pub worn_poll : (t : Bool) (i : ℕ) → worn f a ≡ true
-      → (polled (moved (programs f a byte 1 t) i) a ≡ moved (with_state f (Broken byte (not t))) (i + 1))
-      × (poll_verdict (moved (programs f a byte 1 t) i) a byte ≡ Failed)
-  worn_poll t i w =
-      let g : Flash = with_state f (Broken byte t) in
-      let e : steps 1 (programs f a byte 1 t) ≡ g = last_state t ∙ cond-false (protected f a) _ _ k.unprotected ∙ cond-true (worn f a) _ _ w in (
-        polled_is (programs f a byte 1 t) i a
-            ∙ ap (λ (x : Flash). moved (seen x a) (i + 1)) e ∙ ap (λ (x : Flash). moved x (i + 1)) (see_in g a k.within),
-        verdict_is (programs f a byte 1 t) i a byte
-            ∙ ap (λ (x : Flash). judged (byte_of (answered x a)) byte) e
-            ∙ ap (λ (x : ℕ). judged x byte) (answer_in g a k.within)
-            ∙ judged_failed byte small t,
-      )
+  last_done : (w s : Rig) (seen : ℕ) → i < span → span - i ≤ 1 → worn (meaning r) (block (meaning r) a) ≡ false
+      → Elapses on 1 w → Shows w a seen s → (v : Verdict) → v ≡ judged seen byte → Found r a byte i v s
+  last_done w s seen l h good e x v is =
+      let n : i + 1 ≡ span = omega arith in
+      let cells : List ℕ = set r.cells a byte in
+      let w_is : w ≡ later r span cells (resting None start) =
+      e.burns (burn a byte (span - i) t) None refl clear h (lit≤ tt) good
+      ∙ later_more r i 1 r.cells cells (programming (burn a byte (span - i) t) None) (resting None start)
+      ∙ ap (λ (m : ℕ). later r m cells (resting None start)) n in
+      let within : a < length r.cells = omega (arith, sound.whole, ltb-true _ _ k.within) in
+      let P : Rig → Type 0 = λ y. Shows y a seen s → Found r a byte i v s in
+      subst P (sym w_is)
+      (λ z. let byte_is = z.rests None start refl (λ j e. let no : ◌≡◌ {A = ℕ} 0 1 = cc in absurd (omega arith)) in
+      done (is ∙ judged_done seen byte (byte_is ∙ get_or-set_same r.cells a byte 0 within)) good
+      (still_read (later r span cells (resting None start)) s a seen (resting None start) refl refl z)) x
 
-  pub sound_poll : Sound f → (t : Bool) (i : ℕ) → worn f a ≡ false
-      → (polled (moved (programs f a byte 1 t) i) a ≡ moved (with_cells f (set f.cells a byte) read_mode) (i + 1))
-      × (poll_verdict (moved (programs f a byte 1 t) i) a byte ≡ Done)
-  sound_poll s t i w =
-      let same : bit_and (cell f a) byte ≡ byte = eqb-true _ _ (not-false _ k.clears) in
-      let g : Flash = with_cells f (set f.cells a byte) read_mode in
-      let within : a < length f.cells = omega (arith, s.whole, ltb-true _ _ k.within) in
-      let e : steps 1 (programs f a byte 1 t) ≡ g =
-      last_state t ∙ cond-false (protected f a) _ _ k.unprotected ∙ cond-false (worn f a) _ _ w
-      ∙ ap (λ (x : Bool). with_cells f (set f.cells a (bit_and (cell f a) byte)) (cond x (Broken byte t) read_mode)) k.clears
-      ∙ ap (λ (x : ℕ). with_cells f (set f.cells a x) read_mode) same in
-      let now : get_or (set f.cells a byte) a 0 ≡ byte = get_or-set_same f.cells a byte 0 within in (
-        polled_is (programs f a byte 1 t) i a
-            ∙ ap (λ (x : Flash). moved (seen x a) (i + 1)) e ∙ ap (λ (x : Flash). moved x (i + 1)) (see_in g a k.within),
-        verdict_is (programs f a byte 1 t) i a byte
-            ∙ ap (λ (x : Flash). judged (byte_of (answered x a)) byte) e
-            ∙ ap (λ (x : ℕ). judged x byte) (answer_in g a k.within ∙ now)
-            ∙ judged_done byte,
-      )
+  pub found : i < span → (v : Verdict) (s : Rig) → Polls on a byte v s → Found r a byte i v s
+  found l v s p = elim (cases_lt 1 (span - i)) [
+    | inl h ↦ busy p.waited s p.seen h p.passes p.shows v p.is
+    | inr h ↦ elim (cases_Bool (worn (meaning r) (block (meaning r) a))) [
+      | inl bad ↦ last_failed p.waited s p.seen l h bad p.passes p.shows v p.is
+      | inr good ↦ last_done p.waited s p.seen l h good p.passes p.shows v p.is
+    ]
+  ]
+
+pub program_least : (r : Rig) (a : ℕ) → Sound r → 1 ≤ program_time r a
+program_least r a s =
+    cond_both (worn (meaning r) (block (meaning r) a)) _ _ (λ (n : ℕ). 1 ≤ n) (λ _. lit≤ tt) (λ _. s.program_least)
+
+pub program_most : (r : Rig) (a : ℕ) → Sound r → program_time r a ≤ 300
+program_most r a s =
+    cond_both (worn (meaning r) (block (meaning r) a)) _ _ (λ (n : ℕ). n ≤ 300) (λ _. lit≤ tt) (λ _. s.program_most)
+
+-- The same by what was found.
+apart : (v : Verdict) {A : Type 0} → v ≡ Busy → v ≡ Done → A
+apart v p q = let z : ◌≡◌ {A = ℕ} 0 1 = cc in absurd (omega arith)
+
+apart_failed : (v : Verdict) {A : Type 0} → v ≡ Busy → v ≡ Failed → A
+apart_failed v p q = let z : ◌≡◌ {A = ℕ} 0 1 = cc in absurd (omega arith)
+
+ends_apart : (v : Verdict) {A : Type 0} → v ≡ Done → v ≡ Failed → A
+ends_apart v p q = let z : ◌≡◌ {A = ℕ} 0 1 = cc in absurd (omega arith)
+
+pub if_busy : {r : Rig} {a byte i : ℕ} {v : Verdict} {s : Rig} → Found r a byte i v s → v ≡ Busy
+    → (i + 1 < program_time r a) × ((t : Bool) × (s ≡ later r (i + 1) r.cells (programming (burn a byte (program_time r a - (i + 1)) t) None)))
+if_busy (goes_on e l t x) b = (l, (t, x))
+if_busy {v = v} (done e n x) b = apart v b e
+if_busy {v = v} (broken e n t x) b = apart_failed v b e
+
+-- what a program is to answer and leave
+abbrev pub Ended : Rig → ℕ → ℕ → Bool → Rig → Type 0
+Ended r a byte answer s =
+    (answer ≡ not (worn (meaning r) (block (meaning r) a)))
+    × (s ≡ later r (program_time r a) (cond (worn (meaning r) (block (meaning r) a)) r.cells (set r.cells a byte)) (resting None start))
+
+pub if_done : {r : Rig} {a byte i : ℕ} {v : Verdict} {s : Rig} → Found r a byte i v s → v ≡ Done → Ended r a byte true s
+if_done {v = v} (goes_on e l t x) d = apart v e d
+if_done {r = r} {a = a} {byte = byte} (done e n x) d = (
+  sym (ap not n),
+  x ∙ ap (λ (c : List ℕ). later r (program_time r a) c (resting None start)) (sym (cond-false (worn (meaning r) (block (meaning r) a)) r.cells (set r.cells a byte) n)),
+)
+if_done {v = v} (broken e n t x) d = ends_apart v d e
+
+pub if_failed : {r : Rig} {a byte i : ℕ} {v : Verdict} {s : Rig} → Found r a byte i v s → v ≡ Failed → (m : Rig) → Heeds s a 0xF0 m → Ended r a byte false m
+if_failed {v = v} (goes_on e l t x) f m h = apart_failed v e f
+if_failed {v = v} (done e n x) f m h = ends_apart v e f
+if_failed {r = r} {a = a} {byte = byte} {s = s} (broken e n t x) f m h =
+    let zone : ℕ = r.sheet.zone (block (meaning r) a) in (
+      sym (ap not n),
+      h.mends zone byte t None refl (ap (λ (y : Rig). y.doing) x) ∙ ap (λ (y : Rig). does y (resting None start)) x
+          ∙ ap (λ (c : List ℕ). later r (program_time r a) c (resting None start)) (sym (cond-true (worn (meaning r) (block (meaning r) a)) r.cells (set r.cells a byte) n)),
+    )
+
+-- A poll leaves the same chip.
+pub polled_same : (r s : Rig) (a wanted : ℕ) (v : Verdict) → Polls r a wanted v s → SameChip r s
+polled_same r s a wanted v p =
+    same_more r p.waited s (same_later r p.waited 1 p.passes.only) (same_cycle p.waited s (only_read p.waited s a p.seen p.shows))
+
+-- A poll of a chip of which only the loop's invariant is known.
+pub found_after : (r : Rig) (a byte : ℕ) → byte < 256 → Sound r → Burnable r a byte → (i : ℕ) (h : Rig)
+    → (i < program_time r a) × ((t : Bool) × (h ≡ later r i r.cells (programming (burn a byte (program_time r a - i) t) None)))
+    → (v : Verdict) (s : Rig) → Polls h a byte v s → Found r a byte i v s
+found_after r a byte small sound k i h inv v s p =
+    found r a byte small sound k i inv.1.0 inv.0 v s (subst (λ (y : Rig). Polls y a byte v s) inv.1.1 p)

@@ -1,88 +1,125 @@
--- A read cycle of a driven chip, in the words of a part.
-use Rattle.std.proofs.Common.{◌≡◌, ℕ, ◌%◌, ◌^◌, Bool, true, false, cond, eqb, length, Ok, Err, refl, ap, ◌∙◌, arith}
-use Rattle.std.proofs.lemmas.Bool.{le-ltb, lt-ltb, leb-true, leb-false, cond-true, cond-false, true≢false}
-use Rattle.std.proofs.lemmas.Bool.Decides.{nat_tests}
-use Rattle.fault.specs.declared.cause.Cause.TheVariants.{AddressOutside}
-use Rattle.geometry.specs.Blocks.{bit, block_of}
-use Rattle.geometry.specs.Plans.{plan_of}
-use Rattle.geometry.proofs.Bitwise.{bit_one}
-use Rattle.fault.specs.declared.faults.ChipFault.{ChipFault}
-use Rattle.chip.specs.declared.setup.Setup.{Setup}
-use Rattle.chip.specs.declared.state.State.{State}
-use Rattle.chip.specs.Flash.{Flash, with_state, blocks, size, inside, cell, lies_in}
-use Rattle.chip.specs.Reads.{shown, flipped, answered, seen}
-use Rattle.chip.specs.Laws.{Sound}
+-- A read of a chip to which the notes are tied, in the words of a part.
+use Rattle.std.proofs.Common.{◌≡◌, ℕ, true, false, eqb, length, Some, None, Ok, Err, Option, sym, refl, ap, ◌∙◌, subst, inl, inr, arith}
+use Rattle.std.proofs.lemmas.Bool.{lt-leb, le-leb, ltb-true, ltb-false, cond-true, cond-false, true≢false, eq-eqb}
+use Rattle.fault.specs.declared.cause.Cause.TheVariants.{ErasureInTheWay}
 use Rattle.part.specs.declared.answers.Standing.{Standing}
-use Rattle.part.specs.declared.answers.Standing.TheVariants.{Idle, Running, Suspended as Held}
-use Rattle.part.specs.Faults.{raised}
-use Rattle.part.specs.Calls.{outside, hides}
-use Rattle.driver.specs.Driven.{erasure_in, meaning, tied}
-use Rattle.driver.specs.Steps.{Read}
-use Rattle.driver.specs.Work.{erase_of}
-use Rattle.driver.specs.Tying.{when_idle, when_held}
+use Rattle.part.specs.declared.answers.Standing.TheVariants.{Idle, Running, Suspended}
+use Rattle.part.specs.Meaning.{Erasure, Meaning, cell, block, standing_of}
+use Rattle.part.specs.Calls.{answer, hides, bars, outside}
+use Rattle.part.specs.Standings.{stood, hid, barred}
+use Rattle.part.proofs.Standings.{hid_is, barred_is, hides_none, unbarred}
+use Rattle.driver.specs.declared.notes.Notes.{Notes}
+use Rattle.driver.specs.Rig.{Job, Doing, resting, naming, programming, erasing, stopping, failed, other, start, Rig, inside, erasure_in, meaning}
+use Rattle.driver.specs.Cycles.{flipped, Shows}
+use Rattle.driver.specs.Sound.{Sound}
+use Rattle.driver.specs.Notes.{agrees, Tied}
+use Rattle.driver.specs.Calls.{Peeks}
+use Rattle.driver.specs.ProofOfLawful.{when_idle, when_running, when_held}
+use Rattle.driver.proofs.Changing.{same_cycle, only_read, still_read}
 
-eqb_comm : (a b : ℕ) → eqb a b ≡ eqb b a
-eqb_comm a b = grind (arith, nat_tests)
+-- The notes tell which erasure stands.
+pub standing_is : (n : ℕ) (d : Doing) (st : Standing) → agrees n d st ≡ true → standing_of (erasure_in d) ≡ st
+standing_is n d Idle t = ap (λ (x : Doing). standing_of (erasure_in x)) (when_idle n d t)
+standing_is n d (Running b) t =
+    let k = when_running n b d t in ap (λ (x : Doing). standing_of (erasure_in x)) k.1 ∙ ap Running k.2.block
+standing_is n d (Suspended b) t =
+    let k = when_held n b d t in ap (λ (x : Doing). standing_of (erasure_in x)) k.1 ∙ ap Suspended k.2.block
 
--- what the driver knows of the guards
-abbrev pub Knows : ℕ → Setup → Type 0
-Knows guards s = guards ≡ s.protected % 2 ^ length (plan_of s.kind).sizes
+pub hides_is : (r : Rig) (n : Notes) (b : ℕ) → Tied r n → hid n.standing b ≡ hides (meaning r) b
+hides_is r n b t = ap (λ (s : Standing). hid s b) (sym (standing_is (length r.sheet.sizes) r.doing n.standing t.follows)) ∙ hid_is (meaning r) b
 
-pub seen_setup : (f : Flash) (a : ℕ) → (seen f a).setup ≡ f.setup
-unfolding seen
-seen_setup f a = by (inside f a)
+pub bars_is : (r : Rig) (n : Notes) (b : ℕ) → Tied r n → barred n.standing b ≡ bars (meaning r) b
+bars_is r n b t = ap (λ (s : Standing). barred s b) (sym (standing_is (length r.sheet.sizes) r.doing n.standing t.follows)) ∙ barred_is (meaning r) b
+
+-- A read leaves the meaning, and the tie.
+erasure_flipped : (d : Doing) → erasure_in (flipped d) ≡ erasure_in d
+erasure_flipped (resting o p) = refl
+erasure_flipped (naming z) = refl
+erasure_flipped (programming p o) = refl
+erasure_flipped (erasing j) = refl
+erasure_flipped (stopping j w) = refl
+erasure_flipped (failed z w t o) = refl
+erasure_flipped other = refl
+
+pub same_means : (r s : Rig) (a byte : ℕ) → Shows r a byte s → meaning s ≡ meaning r
+same_means r s a byte x = elim x.only [
+  | inl e ↦ ap meaning e
+  | inr e ↦ ap meaning e ∙ ap (λ (o : Option Erasure). record (meaning r) { erasure = o }) (erasure_flipped r.doing)
+]
+
+pub within_is : (r : Rig) (a : ℕ) → Sound r → inside r.sheet a ≡ true → outside (meaning r) a ≡ false
+within_is r a s i = lt-leb (length r.cells) a (omega (arith, s.whole, ltb-true _ _ i))
+
+pub outside_is : (r : Rig) (a : ℕ) → Sound r → inside r.sheet a ≡ false → outside (meaning r) a ≡ true
+outside_is r a s i = le-leb (length r.cells) a (omega (arith, s.whole, ltb-false _ _ i))
+
+-- Where nothing hides the address, the cell is read.
+running_hides : (r : Rig) (b c : ℕ) (j : Job) → r.doing ≡ erasing j → hides (meaning r) c ≡ true
+running_hides r b c j e = sym (hid_is (meaning r) c) ∙ ap (λ (x : Doing). hid (standing_of (erasure_in x)) c) e
+
+held_hides : (r : Rig) (c : ℕ) (j : Job) → r.doing ≡ resting (Some j) start → hides (meaning r) c ≡ eqb j.block c
+held_hides r c j e = sym (hid_is (meaning r) c) ∙ ap (λ (x : Doing). hid (standing_of (erasure_in x)) c) e
+
+pub cell_read : (r s : Rig) (n : Notes) (a byte : ℕ) → Tied r n → Shows r a byte s → hides (meaning r) (block (meaning r) a) ≡ false
+    → byte ≡ cell (meaning r) a
+cell_read r s n a byte t x h = by n.standing t.follows
   where
-    by : (t : Bool) → (cond t (with_state f (flipped f.state)) f).setup ≡ f.setup
-    by true = refl
-    by false = refl
+    by : (st : Standing) → agrees (length r.sheet.sizes) r.doing st ≡ true → byte ≡ cell (meaning r) a
+    by Idle t = x.rests None start (when_idle (length r.sheet.sizes) r.doing t) (λ j e. let no : ◌≡◌ {A = ℕ} 0 1 = cc in absurd (omega arith))
+    by (Running b) t =
+        let k = when_running (length r.sheet.sizes) b r.doing t in
+        absurd (true≢false (sym (running_hides r b (block (meaning r) a) k.0 k.1) ∙ h))
+    by (Suspended b) t =
+        let k = when_held (length r.sheet.sizes) b r.doing t in
+        x.rests (Some k.0) start k.1 (λ j e own.
+        let same : k.0 ≡ j = cc in
+        let own_block : k.0.block ≡ block (meaning r) a = ap (λ (y : Job). y.block) same ∙ sym own in
+        true≢false (sym (eq-eqb k.0.block (block (meaning r) a) own_block) ∙ sym (held_hides r (block (meaning r) a) k.0 k.1) ∙ h))
 
-answered_in : (f : Flash) (a : ℕ) → inside f a ≡ true → answered f a ≡ Ok (shown f f.state a)
-unfolding answered
-answered_in f a i = cond-true (inside f a) _ _ i
+-- the peek
+pub peek_hidden : (r s : Rig) (n : Notes) (a byte : ℕ) → Sound r → Tied r n → inside r.sheet a ≡ true → Shows r a byte s
+    → hid n.standing (block (meaning r) a) ≡ true → Peeks r a (Err (record { cause = ErasureInTheWay; place = a })) s
+peek_hidden r s n a byte k t i x h =
+    let m : Meaning = meaning r in
+    record {
+      answer =
+          sym (ap (λ o. answer o a (cell m a))
+          (cond-false (outside m a) _ _ (within_is r a k i) ∙ cond-true (hides m (block m a)) _ _ (sym (hides_is r n (block m a) t) ∙ h)));
+      same = same_means r s a byte x;
+      chip = same_cycle r s (only_read r s a byte x);
+    }
 
-answered_out : (f : Flash) (a : ℕ) → inside f a ≡ false → answered f a ≡ Err (record { cause = AddressOutside; place = a })
-unfolding answered
-answered_out f a i = cond-false (inside f a) _ _ i
+pub peek_shown : (r s : Rig) (n : Notes) (a byte : ℕ) → Sound r → Tied r n → inside r.sheet a ≡ true → Shows r a byte s
+    → hid n.standing (block (meaning r) a) ≡ false → Peeks r a (Ok byte) s
+peek_shown r s n a byte k t i x h =
+    let m : Meaning = meaning r in
+    let free : hides m (block m a) ≡ false = sym (hides_is r n (block m a) t) ∙ h in
+    record {
+      answer =
+          ap Ok (cell_read r s n a byte t x free)
+          ∙ sym (ap (λ o. answer o a (cell m a)) (cond-false (outside m a) _ _ (within_is r a k i) ∙ cond-false (hides m (block m a)) _ _ free));
+      same = same_means r s a byte x;
+      chip = same_cycle r s (only_read r s a byte x);
+    }
 
-module _ (f : Flash) (st : Standing) (s : Sound f) (t : tied f st ≡ true) where
-  pub outside_is : (a : ℕ) → outside (meaning f st) a ≡ true → inside f a ≡ false
-  outside_is a o = le-ltb a (size f) (omega (arith, s.whole, leb-true _ _ o))
+-- Where no burn is barred, the chip is at rest, and a read changes nothing.
+pub record Free (r s : Rig) (a byte : ℕ) : Type 0 where
+  pub rests : r.doing ≡ resting None start
+  pub same : s ≡ r
+  pub cell : byte ≡ cell (meaning r) a
 
-  pub inside_is : (a : ℕ) → outside (meaning f st) a ≡ false → inside f a ≡ true
-  inside_is a o = lt-ltb a (size f) (omega (arith, s.whole, leb-false _ _ o))
+nothing_stands : (st : Standing) → stood st ≡ false → st ≡ Idle
+nothing_stands Idle e = refl
+nothing_stands (Running b) e = absurd (true≢false e)
+nothing_stands (Suspended b) e = absurd (true≢false e)
 
-  -- where no erasure hides an address, the cell is read
-  pub shows_cell : (a : ℕ) → hides (erasure_in f st) (block_of (blocks f) a) ≡ false → shown f f.state a ≡ cell f a
-  shows_cell a h = by st t h
-    where
-      by : (st : Standing) → tied f st ≡ true → hides (erasure_in f st) (block_of (blocks f) a) ≡ false → shown f f.state a ≡ cell f a
-      by Idle t h = ap (λ (x : State). shown f x a) (when_idle f Idle t refl)
-      by (Running b) t h = absurd (true≢false h)
-      by (Held b) t h =
-          let r = when_held f (Held b) b t refl in
-          let e = erase_of f.state in
-          let own : lies_in f e.selected a ≡ false =
-          ap (λ (m : ℕ). bit m (block_of (blocks f) a)) r.1.selected ∙ bit_one b (block_of (blocks f) a) ∙ other in
-          ap (λ (x : State). shown f x a) r.0 ∙ cond-false (lies_in f e.selected a) _ _ own
-        where
-          other : eqb (block_of (blocks f) a) b ≡ false
-          other = eqb_comm (block_of (blocks f) a) b ∙ h
-
-  -- the answer of a read
-  pub read_ok : (a byte : ℕ) → answered f a ≡ Ok byte → Read (meaning f st) a (Ok byte)
-  read_ok a byte e = record {
-    refused = λ o. let g = answered_out f a (outside_is a o) in let z : ◌≡◌ {A = ℕ} 0 1 = cc in absurd (omega arith);
-    granted = λ o.
-        let g = answered_in f a (inside_is a o) in
-        let same : byte ≡ shown f f.state a = cc in
-        (byte, refl, λ h. same ∙ shows_cell a h);
-  }
-
-  pub read_err : (a : ℕ) (x : ChipFault) → answered f a ≡ Err x → Read (meaning f st) a (Err (raised x))
-  read_err a x e = record {
-    refused = λ o.
-        let g = answered_out f a (outside_is a o) in
-        let same : x ≡ record { cause = AddressOutside; place = a } = cc in
-        ap (λ (y : ChipFault). Err (raised y)) same;
-    granted = λ o. let g = answered_in f a (inside_is a o) in let z : ◌≡◌ {A = ℕ} 0 1 = cc in absurd (omega arith);
-  }
+pub free_read : (r s : Rig) (n : Notes) (a byte : ℕ) → Tied r n → Shows r a byte s → bars (meaning r) (block (meaning r) a) ≡ false → Free r s a byte
+free_read r s n a byte t x b =
+    let none = unbarred (meaning r) (block (meaning r) a) b in
+    let idle : n.standing ≡ Idle = nothing_stands n.standing (bars_is r n (block (meaning r) a) t ∙ b) in
+    let rest : r.doing ≡ resting None start = when_idle (length r.sheet.sizes) r.doing (subst (λ (st : Standing). agrees (length r.sheet.sizes) r.doing st ≡ true) idle t.follows) in
+    record {
+      rests = rest;
+      same = still_read r s a byte (resting None start) rest refl x;
+      cell = cell_read r s n a byte t x (hides_none (meaning r) (block (meaning r) a) none);
+    }

@@ -1,6 +1,8 @@
-pub mod Driven
-pub mod Means
+pub mod Rig
 pub mod Status
+pub mod Cycles
+pub mod Sound
+pub mod Notes
+pub mod Calls
 pub mod Steps
-pub mod Work
-pub mod Tying
+pub mod ProofOfLawful

@@ -1,40 +1,18 @@
--- What the steps of the driver's calls say, in the words of a part.
-use Rattle.std.specs.Prelude.{◌≡◌, ℕ, Bool, true, false, cond, Some, None, Ok, Err, Option, Result, slice_set}
-use Rattle.fault.specs.declared.cause.Cause.{Cause}
-use Rattle.fault.specs.declared.cause.Cause.TheVariants.{AddressOutside, ErasureInTheWay, Guarded, NeedsErase}
-use Rattle.fault.specs.declared.faults.PartFault.{PartFault}
+-- What the steps of the driver's calls do to a chip. Each says it of a chip that is ready for the step, and of any chip that it stays the same chip.
+use Rattle.std.specs.Prelude.{◌≡◌, ℕ, ◌<◌, Bool, false, not, length, Some, None, ◌==◌, if◌then◌else◌, slice_set}
+use Rattle.geometry.specs.declared.set.BlockSet.{BlockSet}
+use Rattle.geometry.specs.Sets.{has}
+use Rattle.geometry.specs.Blocks.{start_of}
 use Rattle.part.specs.declared.answers.Progress.{Progress}
 use Rattle.part.specs.declared.answers.Progress.TheVariants.{Running, Finished, Worn}
 use Rattle.part.specs.declared.answers.Standing.{Standing}
 use Rattle.part.specs.declared.answers.Standing.TheVariants.{Idle, Running as Runs}
-use Rattle.part.specs.Meaning.{Meaning, cell, block, guarded, worn, with_cells}
-use Rattle.part.specs.Calls.{stands, hides, outside, needs_erase, Took}
+use Rattle.part.specs.Meaning.{cell, block, guarded, worn}
 use Rattle.driver.specs.declared.verdict.Verdict.{Verdict}
 use Rattle.driver.specs.declared.verdict.Verdict.TheVariants.{Busy, Done, Failed}
-
--- a read: refused outside, and the cell where no erasure hides it
-pub record Read (m : Meaning) (a : ℕ) (r : Result ℕ PartFault) : Type 0 where
-  pub refused : outside m a ≡ true → r ≡ Err (record { cause = AddressOutside; place = a })
-  pub granted : outside m a ≡ false → (byte : ℕ) × (r ≡ Ok byte) × (hides m.erasure (block m a) ≡ false → byte ≡ cell m a)
-
--- why a burn is refused, once the address is known to be inside and the cell to be `old`, worn blocks aside
-abbrev pub burn_why : Meaning → ℕ → ℕ → ℕ → Option Cause
-burn_why m a old byte =
-    cond (stands m.erasure) (Some ErasureInTheWay)
-    (cond (guarded m (block m a)) (Some Guarded)
-    (cond (needs_erase old byte) (Some NeedsErase) None))
-
--- a byte that may be burnt, worn blocks aside
-pub record Burns (m : Meaning) (a byte : ℕ) : Type 0 where
-  pub within : outside m a ≡ false
-  pub free : stands m.erasure ≡ false
-  pub unguarded : guarded m (block m a) ≡ false
-  pub clears : needs_erase (cell m a) byte ≡ false
-
--- it is burnt, or the block is worn
-abbrev pub Programmed : Meaning → ℕ → ℕ → Bool → Meaning → Type 0
-Programmed m a byte true n = (worn m (block m a) ≡ false) × Took 1 300 (with_cells m (slice_set m.cells a byte)) n
-Programmed m a byte false n = (worn m (block m a) ≡ true) × Took 0 300 m n
+use Rattle.driver.specs.Rig.{Job, resting, naming, programming, erasing, stopping, failed, start, unlocked, program_setup, erase_setup, erase_unlocked, Rig, does, later, SameChip, meaning, program_time, erase_time}
+use Rattle.driver.specs.Status.{dq6, judged}
+use Rattle.driver.specs.Cycles.{Turns, Burnable, Heeds, Shows, Elapses, flip_job}
 
 -- what the look at the end of a pass means
 abbrev pub progress_of : Verdict → Progress
@@ -46,3 +24,97 @@ abbrev pub stands_after : ℕ → Verdict → Standing
 stands_after b Busy = Runs b
 stands_after b Done = Idle
 stands_after b Failed = Idle
+
+-- the two unlocking writes
+pub record Unlocks (r s : Rig) : Type 0 where
+  pub only : s ≡ does r s.doing
+  pub first : Turns r s (resting None start) (resting None unlocked)
+  pub again : Turns r s (resting None erase_setup) (resting None erase_unlocked)
+
+-- the two unlocking writes and a command
+pub record Commands (r : Rig) (b byte : ℕ) (s : Rig) : Type 0 where
+  pub only : s ≡ does r s.doing
+  pub identify : byte ≡ 0x90 → Turns r s (resting None start) (naming (r.sheet.zone b))
+  pub program : byte ≡ 0xA0 → Turns r s (resting None start) (resting None program_setup)
+  pub erase : byte ≡ 0x80 → Turns r s (resting None start) (resting None erase_setup)
+
+-- the guard of a block, in ID mode
+pub record Asks (r : Rig) (b : ℕ) (answer : Bool) (s : Rig) : Type 0 where
+  pub only : s ≡ does r s.doing
+  pub asked : r.doing ≡ resting None start → (answer ≡ guarded (meaning r) b) × (s ≡ r)
+
+-- the guards of all blocks
+pub record Collects (r : Rig) (guards : BlockSet) (s : Rig) : Type 0 where
+  pub only : s ≡ does r s.doing
+  pub collected : r.doing ≡ resting None start → ((b : ℕ) → has guards b ≡ guarded (meaning r) b) × (s ≡ r)
+
+-- one microsecond, then one read
+pub record Polls (r : Rig) (a wanted : ℕ) (v : Verdict) (s : Rig) : Type 0 where
+  pub waited : Rig
+  pub seen : ℕ
+  pub passes : Elapses r 1 waited
+  pub shows : Shows waited a seen s
+  pub is : v ≡ judged seen wanted
+
+-- the polls of a program that has begun, up to its end
+pub record Ends (r : Rig) (a byte : ℕ) (answer : Bool) (s : Rig) : Type 0 where
+  pub same : SameChip r s
+  pub ended : Burnable r a byte
+      → r.doing ≡ programming (record { address = a; byte = byte; left = program_time r a; toggle = false }) None
+      → (answer ≡ not (worn (meaning r) (block (meaning r) a)))
+      × (s ≡ later r (program_time r a) (if worn (meaning r) (block (meaning r) a) then r.cells else slice_set r.cells a byte) (resting None start))
+
+-- a program, whole
+pub record Programs (r : Rig) (a byte : ℕ) (answer : Bool) (s : Rig) : Type 0 where
+  pub same : SameChip r s
+  pub done : Burnable r a byte → r.doing ≡ resting None start
+      → (answer ≡ not (worn (meaning r) (block (meaning r) a)))
+      × (s ≡ later r (program_time r a) (if worn (meaning r) (block (meaning r) a) then r.cells else slice_set r.cells a byte) (resting None start))
+
+-- the beginning of an erase
+pub record Erases (r : Rig) (b : ℕ) (s : Rig) : Type 0 where
+  pub only : s ≡ does r s.doing
+  pub begun : guarded (meaning r) b ≡ false → Turns r s (resting None start) (erasing (record { block = b; left = erase_time r b; toggle = false }))
+
+-- F0h where an operation has failed
+abbrev pub Mends : Rig → ℕ → Verdict → Rig → Type 0
+Mends r a Busy s = s ≡ r
+Mends r a Done s = s ≡ r
+Mends r a Failed s = Heeds r a 0xF0 s
+
+-- one read of a chip that was erasing block b, and F0h where the erase has failed
+pub record Looks (r : Rig) (b : ℕ) (v : Verdict) (s : Rig) : Type 0 where
+  pub only : s ≡ does r s.doing
+  pub busy : b < length r.sheet.sizes → (j : Job) → r.doing ≡ erasing j → j.block ≡ b → (v ≡ Busy) × (s ≡ does r (erasing (flip_job j)))
+  pub broken : b < length r.sheet.sizes → (toggle : Bool) → r.doing ≡ failed (r.sheet.zone b) 0xFF toggle None → (v ≡ Failed) × (s ≡ does r (resting None start))
+  pub done : b < length r.sheet.sizes → r.doing ≡ resting None start → cell (meaning r) (start_of r.sheet.sizes b) ≡ 0xFF → (v ≡ Done) × (s ≡ r)
+
+-- one microsecond, then two reads: whether they agree in the toggle bit
+pub record LooksTwice (r : Rig) (a : ℕ) (answer : Bool) (s : Rig) : Type 0 where
+  pub waited : Rig
+  pub between : Rig
+  pub one : ℕ
+  pub other : ℕ
+  pub passes : Elapses r 1 waited
+  pub first : Shows waited a one between
+  pub second : Shows between a other s
+  pub is : answer ≡ (dq6 one == dq6 other)
+
+-- the erasing is suspended so many microseconds later; only the toggle bit may be another
+abbrev pub Halts : Rig → Job → Rig → Type 0
+Halts r j s = (toggle : Bool) × (s ≡ later r r.suspend r.cells (resting (Some (record j { toggle = toggle })) start))
+
+-- the wait until the toggle bit stands still
+pub record Settles (r : Rig) (a : ℕ) (s : Rig) : Type 0 where
+  pub same : SameChip r s
+  pub settled : (j : Job) → block (meaning r) a ≡ j.block → r.doing ≡ stopping j r.suspend → Halts r j s
+
+-- the suspending of an erase, whole
+pub record Suspends (r : Rig) (b : ℕ) (s : Rig) : Type 0 where
+  pub same : SameChip r s
+  pub suspended : b < length r.sheet.sizes → (j : Job) → r.doing ≡ erasing j → j.block ≡ b → Halts r j s
+
+-- going on with it
+pub record Resumes (r : Rig) (b : ℕ) (s : Rig) : Type 0 where
+  pub only : s ≡ does r s.doing
+  pub resumed : b < length r.sheet.sizes → (j : Job) → j.block ≡ b → Turns r s (resting (Some j) start) (erasing j)

@@ -1,77 +1,60 @@
-ghost use Rattle.std.specs.Prelude.{◌≡◌};
-ghost use Rattle.chip.specs.Flash.{view};
-ghost use Rattle.chip.specs.Writes.{written};
-ghost use Rattle.chip.specs.Reads.{answered, seen};
-ghost use Rattle.chip.specs.Times.{after};
-ghost use Rattle.chip.specs.Laws.{unlocked};
-ghost use Rattle.driver.specs.Status.{byte_of};
-ghost use Rattle.driver.specs.Work.{commanded, polled, poll_verdict, twice_seen, stands_still};
+ghost use Rattle.std.specs.Prelude.{◌≡◌, ℕ, length};
+ghost use Rattle.part.specs.Calls.{block_at};
+ghost use Rattle.geometry.specs.Blocks.{total, block_of};
+ghost use Rattle.driver.specs.Rig.{Rig, meaning};
+ghost use Rattle.driver.specs.Cycles.{Writes, Reads, Passes};
+ghost use Rattle.driver.specs.Sound.{Sound};
 
-use crate::verdict::{Verdict, judge};
-use chip::{Chip, FIRST, SECOND};
+use fault::ChipFault;
+use geometry::Block;
 
-// A chip on its wires: cycles and time, without a refusal to handle. Where a cycle is refused the chip does nothing, and a
-// read is 0. The workbench has the same sequences for chips that may refuse; those end at a refused write and answer it.
-// What an operation needs of the chip's state stands in its `requires`: three begin in read mode, three need an address 0, and a
-// type for each such state would be one more wrapper around the chip.
-#[derive(Drop)]
-pub(crate) struct Bus {
-    pub(crate) chip: Chip,
-}
+/// The bus of a chip, and what a bus master knows of the chip from its data sheet. `rig` is the chip as its driver sees it.
+pub trait Bus {
+    ghost rig: { Self → Rig };
 
-impl Bus {
-    pub(crate) fn put(&mut self, address: u32, byte: u8)
-        ensures { view self.new.chip ≡ written (view self.old.chip) address byte }
-    {
-        let _ = self.chip.write(address, byte);
-    }
+    /// A write cycle.
+    fn write(&mut self, address: u32, byte: u8) -> Result<(), ChipFault>
+        ensures { Writes (rig self.old) address byte result (rig self.new) };
 
-    pub(crate) fn see(&mut self, address: u32) -> u8
-        ensures byte { result ≡ byte_of (answered (view self.old.chip) address) }
-        ensures chip { view self.new.chip ≡ seen (view self.old.chip) address }
-    {
-        self.chip.read(address).unwrap_or(0)
-    }
+    /// A read cycle.
+    fn read(&mut self, address: u32) -> Result<u8, ChipFault>
+        ensures { Reads (rig self.old) address result (rig self.new) };
 
-    fn wait(&mut self, n: u32)
-        ensures { view self.new.chip ≡ after n (view self.old.chip) }
-    {
-        let _ = self.chip.pass(n);
-    }
+    /// Lets n microseconds pass.
+    fn pass(&mut self, n: u32) -> Result<(), ChipFault>
+        ensures { Passes (rig self.old) n result (rig self.new) };
 
-    // The two unlocking writes.
-    pub(crate) fn unlock(&mut self)
-        ensures { view self.new.chip ≡ unlocked (view self.old.chip) 0x5555 0x2AAA }
-    {
-        self.put(FIRST, 0xAA);
-        self.put(SECOND, 0x55);
-    }
+    /// The microseconds that have passed on the chip, modulo 4,294,967,296.
+    fn clock(&self) -> u32
+        ensures { result ≡ (rig self.now).clock };
 
-    // The two unlocking writes, and a command.
-    pub(crate) fn command(&mut self, byte: u8)
-        ensures { view self.new.chip ≡ commanded (view self.old.chip) byte }
-    {
-        self.unlock();
-        self.put(FIRST, byte);
-    }
+    /// How many bytes the chip has.
+    fn size(&self) -> u32
+        ensures { result ≡ total (rig self.now).sheet.sizes };
 
-    // One microsecond, then one read of an operation that is to leave `wanted` in the cell.
-    pub(crate) fn poll(&mut self, address: u32, wanted: u8) -> Verdict
-        ensures verdict { result ≡ poll_verdict (view self.old.chip) address wanted }
-        ensures chip { view self.new.chip ≡ polled (view self.old.chip) address }
-    {
-        self.wait(1);
-        judge(self.see(address), wanted)
-    }
+    /// How many blocks the chip has.
+    fn count(&self) -> u32
+        ensures { result ≡ length (rig self.now).sheet.sizes };
 
-    // One microsecond, then two reads: whether they agree in the toggle bit.
-    pub(crate) fn still(&mut self, address: u32) -> bool
-        ensures answer { result ≡ stands_still (view self.old.chip) address }
-        ensures chip { view self.new.chip ≡ twice_seen (view self.old.chip) address }
-    {
-        self.wait(1);
-        let first = self.see(address);
-        let second = self.see(address);
-        first / 64 % 2 == second / 64 % 2
-    }
+    /// Where a block begins and how many bytes it has; none where there is no such block.
+    fn block(&self, number: u32) -> Option<Block>
+        ensures { result ≡ block_at (meaning (rig self.now)) number };
+
+    /// The block that an address lies in; the number of blocks where the address is outside.
+    fn block_at(&self, address: u32) -> u32
+        ensures { result ≡ block_of (rig self.now).sheet.sizes address };
+
+    /// The first of the two addresses at which the commands for a block are written.
+    fn first(&self, block: u32) -> u32
+        ensures { result ≡ (rig self.now).sheet.first block };
+
+    /// The second one.
+    fn second(&self, block: u32) -> u32
+        ensures { result ≡ (rig self.now).sheet.second block };
+
+    /// Where ID mode shows whether a block is guarded.
+    fn guard(&self, block: u32) -> u32
+        ensures { result ≡ (rig self.now).sheet.guard block };
+
+    ghost sound: { (s : Self) → Sound (rig s) };
 }

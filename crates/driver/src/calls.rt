@@ -1,99 +1,122 @@
-// The driven chip's calls as a part.
-ghost use Rattle.driver.specs.Means.{means as meaning};
-ghost use Rattle.chip.specs.Flash.{view};
-ghost use Rattle.chip.proofs.PassLaws.{all_sound};
-ghost use Rattle.driver.specs.Tying;
+// The driver's calls on the bus of a chip and its own notes. Each is whole: it refuses what is to be refused, and where the notes are tied to the chip it
+// does what a part does, and leaves them tied. The type of a chip's family hands its calls on to these.
+ghost use Rattle.std.specs.Prelude.{◌≡◌};
+ghost use Rattle.driver.specs.Rig.{resting, start};
+ghost use Rattle.driver.specs.Notes.{Tied};
+ghost use Rattle.driver.specs.Calls.{Peeks, Burns, Begins, Holds, GoesOn, Waits};
 
-use crate::driven::Driven;
-use geometry::Block;
+use crate::bus::Bus;
+use crate::commands::collect;
+use crate::erase::{erase, look};
+use crate::notes::Notes;
+use crate::program::program;
+use crate::suspend::{resume, suspend};
+use crate::verdict::stands_after;
 use fault::{Cause, PartFault};
-use part::{Part, Progress, Shape, Standing, Turn};
+use part::{Progress, Shape, Standing, Turn, granted};
 
-impl Part for Driven {
-    ghost means = { meaning };
-
-    ghost lawful = { λ s. Tying.lawful (view s.bus.chip) s.standing (all_sound s.bus.chip) s.follows };
-
-    fn shape(&self) -> Shape {
-        Shape {
-            size: self.bus.chip.size(),
-            blocks: self.count(),
-            standing: self.standing,
-        }
+/// Takes a chip in read mode: reads its guards in ID mode.
+pub fn take<B: Bus>(bus: &mut B) -> Notes
+    ensures same { (B.Bus.rig bus.old).doing ≡ resting None start → B.Bus.rig bus.new ≡ B.Bus.rig bus.old }
+    ensures tied { (B.Bus.rig bus.old).doing ≡ resting None start → Tied (B.Bus.rig bus.new) result }
+{
+    Notes {
+        guards: collect(bus),
+        standing: Standing::Idle,
     }
+}
 
-    #[tactic(auto, using(crate::proofs::Calling::same_block))]
-    fn block(&self, number: u32) -> Option<Block> {
-        self.bus.chip.block(number as usize)
+/// Gives a cell: one read cycle.
+pub fn peek<B: Bus>(bus: &mut B, notes: &Notes, address: u32) -> Result<u8, PartFault>
+    ensures call { Tied (B.Bus.rig bus.old) notes.now → Peeks (B.Bus.rig bus.old) address result (B.Bus.rig bus.new) }
+    ensures tied { Tied (B.Bus.rig bus.old) notes.now → Tied (B.Bus.rig bus.new) notes.now }
+{
+    let seen = bus.read(address)?;
+    if notes.standing.hides(bus.block_at(address)) {
+        return Err(PartFault {
+            cause: Cause::ErasureInTheWay,
+            place: address,
+        });
     }
+    Ok(seen)
+}
 
-    fn guarded(&self, block: u32) -> bool {
-        self.guards_block(block)
-    }
-
-    fn clock(&self) -> u32 {
-        self.bus.chip.clock()
-    }
-
-    #[tactic(auto, using(crate::proofs::Calling::read_broke, crate::proofs::Calling::read_gave, crate::proofs::Calling::peek_outside, crate::proofs::Calling::peek_hidden, crate::proofs::Calling::peek_free))]
-    fn peek(&mut self, address: u32) -> Result<u8, PartFault> {
-        let seen = self.read(address)?;
-        if self.hides(address) {
-            return Err(PartFault {
-                cause: Cause::ErasureInTheWay,
-                place: address,
-            });
-        }
-        Ok(seen)
-    }
-
-    fn burn(&mut self, address: u32, byte: u8) -> Result<(), PartFault> {
-        let old = self.read(address)?;
-        self.may_burn(address, old, byte)?;
-        if self.burn_cell(address, byte) {
-            Ok(())
-        } else {
-            Err(PartFault {
-                cause: Cause::Worn,
-                place: address,
-            })
-        }
-    }
-
-    fn begin(&mut self, block: u32) -> Result<(), PartFault> {
-        self.may_begin(block)?;
-        self.start(block);
+/// Burns a byte into a cell, and polls the chip until it is done or has failed.
+pub fn burn<B: Bus>(bus: &mut B, notes: &Notes, address: u32, byte: u8) -> Result<(), PartFault>
+    ensures call { Tied (B.Bus.rig bus.old) notes.now → Burns (B.Bus.rig bus.old) address byte result (B.Bus.rig bus.new) }
+    ensures tied { Tied (B.Bus.rig bus.old) notes.now → Tied (B.Bus.rig bus.new) notes.now }
+{
+    let old = bus.read(address)?;
+    granted(notes.burn_why(bus.block_at(address), old, byte), address)?;
+    if program(bus, address, byte) {
         Ok(())
+    } else {
+        Err(PartFault {
+            cause: Cause::Worn,
+            place: address,
+        })
     }
+}
 
-    #[tactic(auto, using(crate::proofs::Holding::held_driven, chip::proofs::PassLaws::all_sound))]
-    fn hold(&mut self) -> Turn {
-        match self.standing {
-            Standing::Running(block) => {
-                self.bus.suspend();
-                self.standing = Standing::Suspended(block);
-                Turn::Done
-            }
-            _ => Turn::Nothing,
+/// Begins the erasure of a block.
+pub fn begin<B: Bus>(bus: &mut B, notes: &mut Notes, block: u32) -> Result<(), PartFault>
+    ensures call { Tied (B.Bus.rig bus.old) notes.old → Begins (B.Bus.rig bus.old) block result (B.Bus.rig bus.new) }
+    ensures tied { Tied (B.Bus.rig bus.old) notes.old → Tied (B.Bus.rig bus.new) notes.new }
+{
+    let shape = Shape {
+        size: bus.size(),
+        blocks: bus.count(),
+        standing: notes.standing,
+    };
+    granted(shape.begin_no(block, notes.guards(block)), block)?;
+    erase(bus, block);
+    notes.standing = Standing::Running(block);
+    Ok(())
+}
+
+/// Holds a running erasure, and waits until the chip is suspended.
+pub fn hold<B: Bus>(bus: &mut B, notes: &mut Notes) -> Turn
+    ensures call { Tied (B.Bus.rig bus.old) notes.old → Holds (B.Bus.rig bus.old) result (B.Bus.rig bus.new) }
+    ensures tied { Tied (B.Bus.rig bus.old) notes.old → Tied (B.Bus.rig bus.new) notes.new }
+{
+    match notes.standing {
+        Standing::Running(block) => {
+            suspend(bus, block);
+            notes.standing = Standing::Suspended(block);
+            Turn::Done
         }
+        _ => Turn::Nothing,
     }
+}
 
-    fn go_on(&mut self) -> Turn {
-        match self.standing {
-            Standing::Suspended(block) => {
-                self.bus.resume();
-                self.standing = Standing::Running(block);
-                Turn::Done
-            }
-            _ => Turn::Nothing,
+/// Lets a held erasure go on.
+pub fn go_on<B: Bus>(bus: &mut B, notes: &mut Notes) -> Turn
+    ensures call { Tied (B.Bus.rig bus.old) notes.old → GoesOn (B.Bus.rig bus.old) result (B.Bus.rig bus.new) }
+    ensures tied { Tied (B.Bus.rig bus.old) notes.old → Tied (B.Bus.rig bus.new) notes.new }
+{
+    match notes.standing {
+        Standing::Suspended(block) => {
+            resume(bus, block);
+            notes.standing = Standing::Running(block);
+            Turn::Done
         }
+        _ => Turn::Nothing,
     }
+}
 
-    fn pass(&mut self, n: u32) -> Result<Progress, PartFault> {
-        match self.standing {
-            Standing::Running(block) => self.pass_running(block, n),
-            Standing::Idle => self.pass_still(n).map(|()| Progress::Idle),
-            Standing::Suspended(_) => self.pass_still(n).map(|()| Progress::Suspended),
+/// Lets n microseconds pass. Where an erasure runs, one read tells what became of it.
+pub fn pass<B: Bus>(bus: &mut B, notes: &mut Notes, n: u32) -> Result<Progress, PartFault>
+    ensures call { Tied (B.Bus.rig bus.old) notes.old → Waits (B.Bus.rig bus.old) n result (B.Bus.rig bus.new) }
+    ensures tied { Tied (B.Bus.rig bus.old) notes.old → Tied (B.Bus.rig bus.new) notes.new }
+{
+    bus.pass(n)?;
+    match notes.standing {
+        Standing::Idle => Ok(Progress::Idle),
+        Standing::Suspended(_) => Ok(Progress::Suspended),
+        Standing::Running(block) => {
+            let verdict = look(bus, block);
+            notes.standing = stands_after(block, verdict);
+            Ok(verdict.into())
         }
     }
 }

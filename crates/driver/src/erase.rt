@@ -1,43 +1,41 @@
 // Beginning an erase, and looking whether it has ended.
-ghost use Rattle.std.specs.Prelude.{◌≡◌, true, false};
-ghost use Rattle.chip.specs.declared.state.Phase.TheVariants.{Window};
-ghost use Rattle.chip.specs.declared.state.State.TheVariants.{Erasing};
-ghost use Rattle.chip.specs.Flash.{view, with_state, inside};
-ghost use Rattle.chip.specs.Writes.{read_mode, block_mask};
-ghost use Rattle.driver.specs.Work.{mended, looked, look_verdict};
+ghost use Rattle.std.specs.Prelude.{◌≡◌, ◌<◌, true, length};
+ghost use Rattle.driver.specs.Rig.{inside};
+ghost use Rattle.driver.specs.Steps.{Erases, Mends, Looks};
 
 use crate::bus::Bus;
+use crate::commands::{command, unlock};
 use crate::verdict::{Verdict, judge};
 
-impl Bus {
-    // Begins the erase of the block that an address lies in.
-    #[tactic(auto, using(crate::proofs::Commands::begins_erase))]
-    pub(crate) fn erase(&mut self, address: u32)
-        requires ready { (view self.old.chip).state ≡ read_mode }
-        requires inside { inside (view self.old.chip) address ≡ true }
-        ensures { view self.new.chip ≡ with_state (view self.old.chip) (Erasing (record { phase = Window; selected = block_mask (view self.old.chip) address; left = 50; toggle = false })) }
-    {
-        self.command(0x80);
-        self.unlock();
-        self.put(address, 0x30);
-    }
+// Begins the erase of a block.
+pub(crate) fn erase<B: Bus>(bus: &mut B, block: u32)
+    requires { block < length (B.Bus.rig bus.old).sheet.sizes }
+    ensures { Erases (B.Bus.rig bus.old) block (B.Bus.rig bus.new) }
+{
+    let start = bus.block(block).unwrap().start;
+    command(bus, block, 0x80);
+    unlock(bus, block);
+    bus.write(start, 0x30).unwrap();
+}
 
-    // Brings a failed chip back to read mode.
-    fn mend(&mut self, address: u32, verdict: Verdict)
-        ensures { view self.new.chip ≡ mended (view self.old.chip) address verdict }
-    {
-        if verdict == Verdict::Failed {
-            self.put(address, 0xF0);
-        }
+// Brings a failed chip back to read mode.
+fn mend<B: Bus>(bus: &mut B, address: u32, verdict: Verdict)
+    requires { inside (B.Bus.rig bus.old).sheet address ≡ true }
+    ensures { Mends (B.Bus.rig bus.old) address verdict (B.Bus.rig bus.new) }
+{
+    if verdict == Verdict::Failed {
+        bus.write(address, 0xF0).unwrap();
     }
+}
 
-    // One read of a chip that was erasing the block of an address. After a failure the chip is brought back to read mode.
-    pub(crate) fn look(&mut self, address: u32) -> Verdict
-        ensures verdict { result ≡ look_verdict (view self.old.chip) address }
-        ensures chip { view self.new.chip ≡ looked (view self.old.chip) address }
-    {
-        let verdict = judge(self.see(address), 0xFF);
-        self.mend(address, verdict);
-        verdict
-    }
+// One read of a chip that was erasing a block. After a failure the chip is brought back to read mode. In a block that there is not, nothing is left to do.
+pub(crate) fn look<B: Bus>(bus: &mut B, block: u32) -> Verdict
+    ensures { Looks (B.Bus.rig bus.old) block result (B.Bus.rig bus.new) }
+{
+    let Some(place) = bus.block(block) else {
+        return Verdict::Done;
+    };
+    let verdict = judge(bus.read(place.start).unwrap(), 0xFF);
+    mend(bus, place.start, verdict);
+    verdict
 }

@@ -1,16 +1,20 @@
-//! The driver: a chip of any geometry as a part, by bus cycles and time alone.
+//! The driver: a chip of any family as a part, by bus cycles and time alone. It knows the chip through the trait `Bus`; what it notes of its chip is kept
+//! beside the chip by a type of each family's own, through the trait `Seat`.
 #![tactic(auto)]
 
 mod bus;
 mod calls;
+mod commands;
 mod driven;
 mod erase;
-mod making;
-mod passing;
+mod notes;
 mod program;
-mod questions;
-mod steps;
+mod seat;
 mod suspend;
 mod verdict;
 
+pub use bus::Bus;
+pub use calls::{begin, burn, go_on, hold, pass, peek, take};
 pub use driven::Driven;
+pub use notes::Notes;
+pub use seat::Seat;

@@ -1,46 +1,51 @@
 // Programming a byte, to its end.
-ghost use Rattle.std.specs.Prelude.{◌≡◌, false, not};
-ghost use Rattle.chip.specs.Flash.{view, worn};
-ghost use Rattle.chip.specs.Writes.{read_mode, program_time};
-ghost use Rattle.driver.specs.Work.{Clear, programs, programmed};
+ghost use Rattle.std.specs.Prelude.{◌≡◌, true};
+ghost use Rattle.driver.specs.Rig.{inside};
+ghost use Rattle.driver.specs.Steps.{Polls, Ends, Programs};
 
 use crate::bus::Bus;
-use crate::verdict::Verdict;
-use chip::LONGEST_PROGRAM;
+use crate::commands::command;
+use crate::verdict::{Verdict, judge};
 
-impl Bus {
-    // Polls a chip that has begun to program a byte until it is done or has failed, and tells whether it is done. After a failure
-    // the chip is brought back to read mode.
-    fn finish(&mut self, address: u32, byte: u8) -> bool
-        requires clear { Clear (view self.old.chip) address byte }
-        requires begun { view self.old.chip ≡ programs (view self.old.chip) address byte (program_time (view self.old.chip) address byte) false }
-        ensures answer { result ≡ not (worn (view self.old.chip) address) }
-        ensures chip { view self.new.chip ≡ programmed (view self.old.chip) address byte }
-    {
-        for _turn in 0..LONGEST_PROGRAM {
-            match self.poll(address, byte) {
-                Verdict::Busy => {}
-                Verdict::Done => return true,
-                Verdict::Failed => {
-                    self.put(address, 0xF0);
-                    return false;
-                }
+/// The longest time, in microseconds, that a byte may take to program; also that after which a program fails.
+const LONGEST_PROGRAM: u32 = 300;
+
+// One microsecond, then one read of an operation that is to leave `wanted` in the cell.
+fn poll<B: Bus>(bus: &mut B, address: u32, wanted: u8) -> Verdict
+    requires { inside (B.Bus.rig bus.old).sheet address ≡ true }
+    ensures { Polls (B.Bus.rig bus.old) address wanted result (B.Bus.rig bus.new) }
+{
+    bus.pass(1).unwrap();
+    judge(bus.read(address).unwrap(), wanted)
+}
+
+// Polls a chip that has begun to program a byte until it is done or has failed, and tells whether it is done. After a failure the chip is brought back to
+// read mode.
+fn finish<B: Bus>(bus: &mut B, address: u32, byte: u8) -> bool
+    requires { inside (B.Bus.rig bus.old).sheet address ≡ true }
+    ensures { Ends (B.Bus.rig bus.old) address byte result (B.Bus.rig bus.new) }
+{
+    for _turn in 0..LONGEST_PROGRAM {
+        match poll(bus, address, byte) {
+            Verdict::Busy => {}
+            Verdict::Done => return true,
+            Verdict::Failed => {
+                bus.write(address, 0xF0).unwrap();
+                return false;
             }
         }
-        false
     }
+    false
+}
 
-    // Programs a byte and tells whether it worked: it does not in a worn block. A `bool`, since it fails in one way alone, and the caller of the part is
-    // told its cause and place.
-    #[tactic(auto, using(crate::proofs::Commands::begins_program))]
-    pub(crate) fn program(&mut self, address: u32, byte: u8) -> bool
-        requires ready { (view self.old.chip).state ≡ read_mode }
-        requires clear { Clear (view self.old.chip) address byte }
-        ensures answer { result ≡ not (worn (view self.old.chip) address) }
-        ensures chip { view self.new.chip ≡ programmed (view self.old.chip) address byte }
-    {
-        self.command(0xA0);
-        self.put(address, byte);
-        self.finish(address, byte)
-    }
+// Programs a byte and tells whether it worked: it does not in a worn block. A `bool`, since it fails in one way alone, and the caller of the part is told
+// its cause and place.
+pub(crate) fn program<B: Bus>(bus: &mut B, address: u32, byte: u8) -> bool
+    requires { inside (B.Bus.rig bus.old).sheet address ≡ true }
+    ensures { Programs (B.Bus.rig bus.old) address byte result (B.Bus.rig bus.new) }
+{
+    let block = bus.block_at(address);
+    command(bus, block, 0xA0);
+    bus.write(address, byte).unwrap();
+    finish(bus, address, byte)
 }

@@ -1,43 +1,51 @@
-// Suspending an erase, and going on with it.
+// Suspending an erase, and going on with it: in the block that is erased. In a block that there is not, there is nothing to do.
 ghost use Rattle.std.specs.Prelude.{◌≡◌, true};
-ghost use Rattle.chip.specs.declared.state.State.TheVariants.{Erasing, Suspending, Suspended};
-ghost use Rattle.chip.specs.Flash.{view, with_state, inside};
-ghost use Rattle.driver.specs.Work.{erase_of, Halted};
+ghost use Rattle.driver.specs.Rig.{inside};
+ghost use Rattle.driver.specs.Steps.{LooksTwice, Settles, Suspends, Resumes};
 
 use crate::bus::Bus;
-use chip::LONGEST_SUSPENSION;
 
-impl Bus {
-    // Waits until the toggle bit stands still.
-    fn settle(&mut self)
-        requires inside { inside (view self.old.chip) 0 ≡ true }
-        requires begun { (view self.old.chip).state ≡ Suspending (erase_of (view self.old.chip).state) (view self.old.chip).setup.suspend }
-        ensures { Halted (view self.old.chip) (view self.old.chip).setup.suspend (view self.new.chip) }
-    {
-        for _turn in 0..LONGEST_SUSPENSION {
-            if self.still(0) {
-                return;
-            }
+/// The longest time, in microseconds, from the suspend command until a chip is suspended.
+const LONGEST_SUSPENSION: u32 = 15;
+
+// One microsecond, then two reads: whether they agree in the toggle bit.
+fn still<B: Bus>(bus: &mut B, address: u32) -> bool
+    requires { inside (B.Bus.rig bus.old).sheet address ≡ true }
+    ensures { LooksTwice (B.Bus.rig bus.old) address result (B.Bus.rig bus.new) }
+{
+    bus.pass(1).unwrap();
+    let first = bus.read(address).unwrap();
+    let second = bus.read(address).unwrap();
+    first / 64 % 2 == second / 64 % 2
+}
+
+// Waits until the toggle bit stands still.
+fn settle<B: Bus>(bus: &mut B, address: u32)
+    requires { inside (B.Bus.rig bus.old).sheet address ≡ true }
+    ensures { Settles (B.Bus.rig bus.old) address (B.Bus.rig bus.new) }
+{
+    for _turn in 0..LONGEST_SUSPENSION {
+        if still(bus, address) {
+            return;
         }
     }
+}
 
-    // Suspends a running erase, and waits until the chip is suspended.
-    #[tactic(auto, using(crate::proofs::Halting::begins_halt, crate::proofs::Halting::same_halt))]
-    pub(crate) fn suspend(&mut self)
-        requires inside { inside (view self.old.chip) 0 ≡ true }
-        requires runs { (view self.old.chip).state ≡ Erasing (erase_of (view self.old.chip).state) }
-        ensures { Halted (view self.old.chip) (view self.old.chip).setup.suspend (view self.new.chip) }
-    {
-        self.put(0, 0xB0);
-        self.settle();
+// Suspends a running erase, and waits until the chip is suspended.
+pub(crate) fn suspend<B: Bus>(bus: &mut B, block: u32)
+    ensures { Suspends (B.Bus.rig bus.old) block (B.Bus.rig bus.new) }
+{
+    if let Some(place) = bus.block(block) {
+        bus.write(place.start, 0xB0).unwrap();
+        settle(bus, place.start);
     }
+}
 
-    // Goes on with a suspended erase.
-    pub(crate) fn resume(&mut self)
-        requires inside { inside (view self.old.chip) 0 ≡ true }
-        requires stands { (view self.old.chip).state ≡ Suspended (erase_of (view self.old.chip).state) }
-        ensures { view self.new.chip ≡ with_state (view self.old.chip) (Erasing (erase_of (view self.old.chip).state)) }
-    {
-        self.put(0, 0x30);
+// Goes on with a suspended erase.
+pub(crate) fn resume<B: Bus>(bus: &mut B, block: u32)
+    ensures { Resumes (B.Bus.rig bus.old) block (B.Bus.rig bus.new) }
+{
+    if let Some(place) = bus.block(block) {
+        bus.write(place.start, 0x30).unwrap();
     }
 }

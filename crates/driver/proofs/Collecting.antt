@@ -1,0 +1,54 @@
+-- The guarded blocks, gathered one after the other.
+use Rattle.std.proofs.Common.{◌≡◌, ℕ, ◌+◌, ◌<◌, ◌≤◌, Bool, true, false, ◌&&◌, ◌||◌, eqb, ltb, length, sym, refl, ap, ◌∙◌, inl, inr, arith}
+use Rattle.std.proofs.lemmas.List.{get_or_past}
+use Rattle.std.proofs.lemmas.Bool.{cases_lt, cases_eq, lt-ltb, le-ltb, eq-eqb, ne_eqb}
+use Rattle.geometry.specs.declared.set.BlockSet.{BlockSet}
+use Rattle.geometry.specs.Sets.{has, only, union}
+use Rattle.geometry.proofs.Sets.{has_union, has_only}
+use Rattle.part.specs.Meaning.{guarded}
+use Rattle.driver.specs.Rig.{Rig, meaning}
+use Rattle.driver.specs.Sound.{Sound}
+
+or_false : (x : Bool) → (x || false) ≡ x
+or_false true = refl
+or_false false = refl
+
+-- with block i, which is guarded
+pub with_block : (set : BlockSet) (p : ℕ → Bool) (i : ℕ) → i < 128 → p i ≡ true → ((b : ℕ) → has set b ≡ (ltb b i && p b))
+    → (b : ℕ) → has (union set (only i)) b ≡ (ltb b (i + 1) && p b)
+with_block set p i few t f b =
+    has_union set (only i) b ∙ ap (λ (x : Bool). x || has (only i) b) (f b) ∙ ap (λ (x : Bool). (ltb b i && p b) || x) (has_only i b)
+    ∙ by
+  where
+    by : ((ltb b i && p b) || (eqb b i && ltb i 128)) ≡ (ltb b (i + 1) && p b)
+    by = elim (cases_eq b i) [
+      | inl e ↦ rw (e, le-ltb i i (omega arith), lt-ltb i (i + 1) (omega arith), eq-eqb i i refl, lt-ltb i 128 few, t) refl
+      | inr n ↦ elim (cases_lt b i) [
+        | inl l ↦ rw (ne_eqb b i n, lt-ltb b i l, lt-ltb b (i + 1) (omega arith)) (or_false (p b))
+        | inr g ↦ let h : i + 1 ≤ b = omega (arith, n) in rw (ne_eqb b i n, le-ltb b i g, le-ltb b (i + 1) h) refl
+      ]
+    ]
+
+-- without block i, which is not guarded
+pub without_block : (set : BlockSet) (p : ℕ → Bool) (i : ℕ) → p i ≡ false → ((b : ℕ) → has set b ≡ (ltb b i && p b))
+    → (b : ℕ) → has set b ≡ (ltb b (i + 1) && p b)
+without_block set p i t f b = f b ∙ by
+  where
+    by : (ltb b i && p b) ≡ (ltb b (i + 1) && p b)
+    by = elim (cases_lt b i) [
+      | inl l ↦ rw (lt-ltb b i l, lt-ltb b (i + 1) (omega arith)) refl
+      | inr g ↦ elim (cases_eq b i) [
+        | inl e ↦ rw (e, le-ltb i i (omega arith), lt-ltb i (i + 1) (omega arith)) (sym t)
+        | inr n ↦ let h : i + 1 ≤ b = omega (arith, n) in rw (le-ltb b i g, le-ltb b (i + 1) h) refl
+      ]
+    ]
+
+-- Once all blocks were asked: no other block is guarded.
+pub all_blocks : (r : Rig) (set : BlockSet) (n : ℕ) → Sound r → n ≡ length r.sheet.sizes
+    → ((b : ℕ) → has set b ≡ (ltb b n && guarded (meaning r) b)) → (b : ℕ) → has set b ≡ guarded (meaning r) b
+all_blocks r set n s e f b = elim (cases_lt b n) [
+  | inl l ↦ f b ∙ ap (λ (x : Bool). x && guarded (meaning r) b) (lt-ltb b n l)
+  | inr g ↦
+      f b ∙ ap (λ (x : Bool). x && guarded (meaning r) b) (le-ltb b n g)
+      ∙ sym (get_or_past r.guards b false (omega (arith, s.guards, e)))
+]
