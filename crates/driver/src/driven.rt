@@ -18,8 +18,10 @@ pub struct Driven<S> {
 }
 
 impl<S: Seat + Drop> Driven<S> {
+    /// A driven chip of what a family has taken.
     pub fn new(seat: S) -> Driven<S>
-        ensures { ⟦<Driven<S> as Part>⟧.means result ≡ meaning (S.Seat.rig seat) }
+        ensures chip { S.Seat.rig result.seat ≡ S.Seat.rig seat }
+        ensures part { ⟦<Driven<S> as Part>⟧.means result ≡ meaning (S.Seat.rig seat) }
     {
         Driven { seat }
     }

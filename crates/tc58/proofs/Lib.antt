@@ -1,0 +1,5 @@
+pub mod Jobs
+pub mod OneBlock
+pub mod Writing
+pub mod Reading
+pub mod Passing
