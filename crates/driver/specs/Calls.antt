@@ -1,6 +1,7 @@
 -- The driver's calls on a chip, in the words of a part. A part leaves its times open; here they are the chip's own.
 use Rattle.std.specs.Prelude.{◌≡◌, ℕ, ◌+◌, ◌%◌, true, Ok, Err, Some, Result, OnOk, ◌==◌, if◌then◌else◌}
 use Rattle.fault.specs.Causes.{number_of}
+use Rattle.flash.specs.Limits.{longest_program}
 use Rattle.fault.specs.declared.faults.PartFault.{PartFault}
 use Rattle.part.specs.declared.answers.Progress.{Progress}
 use Rattle.part.specs.declared.answers.Turn.{Turn}
@@ -9,10 +10,10 @@ use Rattle.part.specs.Meaning.{cell}
 use Rattle.part.specs.Calls.{answer, peek_no, burn_no, begin_no, time_no, Burnt, Begun, Held, can_hold, can_go, gone_on, progress, after_pass}
 use Rattle.driver.specs.Rig.{Rig, SameChip, meaning, erase_time}
 
--- the microseconds that a burn takes: the chip's program time, or 300 where it is refused with 8
+-- the microseconds that a burn takes: the chip's program time, or the longest where it is refused with 8
 abbrev pub burn_time : Rig → Result (Unit {0}) PartFault → ℕ
 burn_time r (Ok done) = r.program
-burn_time r (Err fault) = if number_of fault.cause == 8 then 300 else 0
+burn_time r (Err fault) = if number_of fault.cause == 8 then longest_program else 0
 
 -- the microseconds that a hold takes: the chip's suspend time, or none where there is nothing to hold
 abbrev pub hold_time : Rig → Turn → ℕ

@@ -2,6 +2,7 @@
 -- its proofs know of a chip; for each family it is said what of its chip it is. The word "rig" is the driver's own: a chip with what a bus master knows of it.
 use Rattle.std.specs.Prelude.{◌≡◌, ℕ, ◌+◌, ◌%◌, Bool, true, false, List, Some, None, Option, if◌then◌else◌, nat_lt}
 use Rattle.geometry.specs.Blocks.{total, block_of}
+use Rattle.flash.specs.Limits.{window, longest_program, longest_erase}
 use Rattle.part.specs.Meaning.{Erasure, Meaning, block, worn}
 
 -- What a data sheet tells a bus master.
@@ -115,7 +116,7 @@ meaning r = record {
 
 -- how long the programming of a byte at an address, and the erasing of a block with the window before it, last
 abbrev pub program_time : Rig → ℕ → ℕ
-program_time r a = if worn (meaning r) (block (meaning r) a) then 300 else r.program
+program_time r a = if worn (meaning r) (block (meaning r) a) then longest_program else r.program
 
 abbrev pub erase_time : Rig → ℕ → ℕ
-erase_time r b = 50 + (if worn (meaning r) b then 10000000 else r.erase)
+erase_time r b = window + (if worn (meaning r) b then longest_erase else r.erase)

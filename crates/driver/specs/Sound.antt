@@ -1,6 +1,7 @@
 -- What is true of every chip on its bus, whatever it is doing.
 use Rattle.std.specs.Prelude.{◌≡◌, ℕ, ◌<◌, ◌≤◌, true, length}
 use Rattle.geometry.specs.Blocks.{total, start_of}
+use Rattle.flash.specs.Limits.{longest_program, longest_erase, longest_suspension}
 use Rattle.driver.specs.Rig.{Sheet, Rig, inside, LiesIn}
 
 -- The addresses that belong to a block lie inside the chip, and its start lies in it.
@@ -19,9 +20,9 @@ pub record Sound (r : Rig) : Type 0 where
   pub wears : length r.wears ≡ length r.sheet.sizes
   pub clock : r.clock < 4294967296
   pub program_least : 1 ≤ r.program
-  pub program_most : r.program ≤ 300
+  pub program_most : r.program ≤ longest_program
   pub erase_least : 1 ≤ r.erase
-  pub erase_most : r.erase ≤ 10000000
+  pub erase_most : r.erase ≤ longest_erase
   pub suspend_least : 1 ≤ r.suspend
-  pub suspend_most : r.suspend ≤ 15
+  pub suspend_most : r.suspend ≤ longest_suspension
   pub addressed : (b : ℕ) → b < length r.sheet.sizes → Addressed r.sheet b

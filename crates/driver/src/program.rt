@@ -6,9 +6,7 @@ ghost use Rattle.driver.specs.Steps.{Polls, Ends, Programs};
 use crate::bus::Bus;
 use crate::commands::command;
 use crate::verdict::{Verdict, judge};
-
-/// The longest time, in microseconds, that a byte may take to program; also that after which a program fails.
-const LONGEST_PROGRAM: u32 = 300;
+use flash::LONGEST_PROGRAM;
 
 // One microsecond, then one read of an operation that is to leave `wanted` in the cell.
 fn poll<B: Bus>(bus: &mut B, address: u32, wanted: u8) -> Verdict

@@ -4,9 +4,7 @@ ghost use Rattle.driver.specs.Rig.{inside};
 ghost use Rattle.driver.specs.Steps.{LooksTwice, Settles, Suspends, Resumes};
 
 use crate::bus::Bus;
-
-/// The longest time, in microseconds, from the suspend command until a chip is suspended.
-const LONGEST_SUSPENSION: u32 = 15;
+use flash::LONGEST_SUSPENSION;
 
 // One microsecond, then two reads: whether they agree in the toggle bit.
 fn still<B: Bus>(bus: &mut B, address: u32) -> bool

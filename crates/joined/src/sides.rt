@@ -62,6 +62,6 @@ pub(crate) fn beside<P: Part, Q: Part, T, F: FnOnce(&mut P) -> T>(
 {
     let before = busy.clock();
     let answer = act(busy);
-    let _ = catch_up(idle, busy, before);
+    catch_up(idle, busy, before);
     answer
 }

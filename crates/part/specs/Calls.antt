@@ -70,6 +70,16 @@ begin_no m b =
     if stands m then Some ErasureInTheWay else
     if guarded m b then Some Guarded else None
 
+-- The longest times, in microseconds: of a burn, of a hold, and of an erasure from its beginning. A part's own times are free inside them.
+abbrev pub longest_burn : ℕ
+longest_burn = 300
+
+abbrev pub longest_hold : ℕ
+longest_hold = 15
+
+abbrev pub longest_erasure : ℕ
+longest_erasure = 10000050
+
 -- Meanings afterwards.
 
 -- the clock has moved by least to most microseconds, and nothing else has changed
@@ -79,24 +89,24 @@ pub record Took (least most : ℕ) (m n : Meaning) : Type 0 where
   pub high : time ≤ most
   pub is : n ≡ ticked m time
 
--- A refusal changes nothing, but 8 lets up to 300 microseconds pass.
+-- A refusal changes nothing, but 8 lets microseconds pass as a burn does.
 abbrev pub Refused : Bool → Meaning → Meaning → Type 0
-Refused true m n = Took 0 300 m n
+Refused true m n = Took 0 longest_burn m n
 Refused false m n = n ≡ m
 
 abbrev pub BurntBy : Meaning → ℕ → ℕ → Option Cause → Meaning → Type 0
-BurntBy m a byte None n = Took 1 300 (with_cells m (slice_set m.cells a byte)) n
+BurntBy m a byte None n = Took 1 longest_burn (with_cells m (slice_set m.cells a byte)) n
 BurntBy m a byte (Some cause) n = Refused (number_of cause == 8) m n
 
 -- burn makes a cell the given byte.
 abbrev pub Burnt : Meaning → ℕ → ℕ → Meaning → Type 0
 Burnt m a byte n = BurntBy m a byte (burn_no m a byte) n
 
--- a running erasure of block b has begun, with 1 to 10,000,050 microseconds left
+-- a running erasure of block b has begun, with at least 1 microsecond left
 pub record Started (m : Meaning) (b : ℕ) (n : Meaning) : Type 0 where
   pub left : ℕ
   pub low : 1 ≤ left
-  pub high : left ≤ 10000050
+  pub high : left ≤ longest_erasure
   pub is : n ≡ with_erasure m (Some (record { block = b; left = left; running = true }))
 
 abbrev pub BegunBy : Meaning → ℕ → Option Cause → Meaning → Type 0
@@ -123,9 +133,9 @@ abbrev pub turned : Bool → Option Erasure → Option Erasure
 turned r None = None
 turned r (Some e) = Some (set_running r e)
 
--- hold makes a running erasure suspended, its time left unchanged, in at most 15 microseconds; otherwise it does nothing.
+-- hold makes a running erasure suspended, its time left unchanged; otherwise it does nothing.
 abbrev pub HeldBy : Meaning → Turn → Meaning → Type 0
-HeldBy m Done n = Took 0 15 (with_erasure m (turned false m.erasure)) n
+HeldBy m Done n = Took 0 longest_hold (with_erasure m (turned false m.erasure)) n
 HeldBy m Nothing n = n ≡ m
 
 abbrev pub Held : Meaning → Meaning → Type 0

@@ -3,7 +3,7 @@ use Rattle.std.specs.Prelude.{◌≡◌, ℕ, ◌+◌, ◌<◌, ◌≤◌, true,
 use Rattle.part.specs.declared.answers.Progress.TheVariants.{Running}
 use Rattle.part.specs.declared.answers.Turn.TheVariants.{Done}
 use Rattle.part.specs.Meaning.{Erasure, Meaning, size, cell, block, guarded, worn, ticked, Lawful}
-use Rattle.part.specs.Calls.{longest, stands, burn_no, Burnt, Begun, Held, can_hold, gone_on, progress, after_pass}
+use Rattle.part.specs.Calls.{longest, longest_hold, stands, burn_no, Burnt, Begun, Held, can_hold, gone_on, progress, after_pass}
 
 -- One call of a part, accepted or refused, by the meaning before and after it. Peeks and questions leave the meaning.
 pub data Call : Type 0 where
@@ -63,7 +63,7 @@ pub record PartLaws : Type 0 where
   pub not_early : (m : Meaning) (e : Erasure) (n : ℕ) → m.erasure ≡ Some e → e.running ≡ true → n < e.left
       → progress m n m.erasure ≡ Running
   -- A hold and a go on with nothing between leave all but the clock as it was.
-  pub held_and_gone : (m n : Meaning) → can_hold m.erasure ≡ Done → Held m n → (t : ℕ) × (t ≤ 15) × (gone_on n ≡ ticked m t)
+  pub held_and_gone : (m n : Meaning) → can_hold m.erasure ≡ Done → Held m n → (t : ℕ) × (t ≤ longest_hold) × (gone_on n ≡ ticked m t)
   -- Passing a and then b leaves what passing a + b leaves, where none of the three is refused.
   pub passes_add : (m : Meaning) (a b : ℕ) → Lawful m → nat_le a longest ≡ true → nat_le b longest ≡ true → nat_le (a + b) longest ≡ true
       → after_pass (after_pass m a) b ≡ after_pass m (a + b)
