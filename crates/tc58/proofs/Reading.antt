@@ -1,6 +1,6 @@
 -- A read cycle of a chip shows what the driver's rows say.
 use Rattle.std.proofs.Common.{◌≡◌, ℕ, ◌+◌, ◌-◌, ◌^◌, ◌<◌, Bool, true, false, cond, not, ◌&&◌, eqb, leb, length, get_or, Some, None, Ok, Err, Option, Result, sym, refl, ap, ◌∙◌, subst, inl, inr, arith}
-use Rattle.std.proofs.lemmas.Bool.{cases_Bool, cases_lt, cond-true, cond-false, eq-eqb, ne_eqb, lt-ltb, le-ltb}
+use Rattle.std.proofs.lemmas.Bool.{and_parts, eqb-true, cases_Bool, cases_lt, cond-true, cond-false, eq-eqb, ne_eqb, lt-ltb, le-ltb}
 use Rattle.fault.specs.declared.faults.ChipFault.{ChipFault}
 use Rattle.fault.specs.declared.cause.Cause.TheVariants.{AddressOutside}
 use Rattle.geometry.specs.Blocks.{block_of}
@@ -66,74 +66,50 @@ flipped_is f (Suspended e) = still (job_of f e)
     still None = refl
 flipped_is f (Failed byte toggle) = refl
 
+-- A test that three bits pass whatever they are.
+all_three : (test : Bool → Bool → Bool → Bool)
+    → ((test true true true && test true true false) && (test true false true && test true false false)
+    && ((test false true true && test false true false) && (test false false true && test false false false))) ≡ true
+    → (x y z : Bool) → test x y z ≡ true
+all_three test t x y z =
+    let halves = and_parts _ _ t in
+    let high = and_parts _ _ halves.0 in
+    let low = and_parts _ _ halves.1 in
+    by x y z (and_parts _ _ high.0) (and_parts _ _ high.1) (and_parts _ _ low.0) (and_parts _ _ low.1)
+  where
+    by : (x y z : Bool) → (test true true true ≡ true) × (test true true false ≡ true) → (test true false true ≡ true) × (test true false false ≡ true)
+        → (test false true true ≡ true) × (test false true false ≡ true) → (test false false true ≡ true) × (test false false false ≡ true) → test x y z ≡ true
+    by true true true a b c d = a.0
+    by true true false a b c d = a.1
+    by true false true a b c d = b.0
+    by true false false a b c d = b.1
+    by false true true a b c d = c.0
+    by false true false a b c d = c.1
+    by false false true a b c d = d.0
+    by false false false a b c d = d.1
+
+-- a status byte with DQ7 as given
+abbrev bits : ℕ → Bool → Bool → Bool → ℕ
+bits high t f b = high + cond t 64 0 + cond f 32 0 + cond b 8 0
+
 -- The status byte has the bits that the driver looks at.
 status_is : (byte : ℕ) (toggle fails begun : Bool) → Status (status byte toggle fails begun) byte toggle fails
 status_is byte toggle fails begun = elim (cases_lt byte 128) [
-  | inl l ↦ let z : dq7 byte ≡ 0 = omega arith in rw (lt-ltb byte 128 l) (record { inverse = rw z (low7 toggle fails begun); toggles = low6 toggle fails begun; fails = low5 toggle fails begun })
+  | inl l ↦
+      let z : dq7 byte ≡ 0 = omega arith in
+      rw (lt-ltb byte 128 l) (record {
+        inverse = rw z (eqb-true _ _ (all_three (λ t f b. eqb (dq7 (bits 128 t f b)) 1) refl toggle fails begun));
+        toggles = eqb-true _ _ (all_three (λ t f b. eqb (dq6 (bits 128 t f b)) (cond t 1 0)) refl toggle fails begun);
+        fails = eqb-true _ _ (all_three (λ t f b. eqb (dq5 (bits 128 t f b)) (cond f 1 0)) refl toggle fails begun);
+      })
   | inr l ↦
       let z : 1 - dq7 byte ≡ 0 = omega arith in
-      rw (le-ltb byte 128 l) (record { inverse = rw z (high7 toggle fails begun); toggles = high6 toggle fails begun; fails = high5 toggle fails begun })
+      rw (le-ltb byte 128 l) (record {
+        inverse = rw z (eqb-true _ _ (all_three (λ t f b. eqb (dq7 (bits 0 t f b)) 0) refl toggle fails begun));
+        toggles = eqb-true _ _ (all_three (λ t f b. eqb (dq6 (bits 0 t f b)) (cond t 1 0)) refl toggle fails begun);
+        fails = eqb-true _ _ (all_three (λ t f b. eqb (dq5 (bits 0 t f b)) (cond f 1 0)) refl toggle fails begun);
+      })
 ]
-  where
-    low7 : (t f b : Bool) → dq7 (128 + cond t 64 0 + cond f 32 0 + cond b 8 0) ≡ 1
-    low7 true true true = refl
-    low7 true true false = refl
-    low7 true false true = refl
-    low7 true false false = refl
-    low7 false true true = refl
-    low7 false true false = refl
-    low7 false false true = refl
-    low7 false false false = refl
-
-    low6 : (t f b : Bool) → dq6 (128 + cond t 64 0 + cond f 32 0 + cond b 8 0) ≡ cond t 1 0
-    low6 true true true = refl
-    low6 true true false = refl
-    low6 true false true = refl
-    low6 true false false = refl
-    low6 false true true = refl
-    low6 false true false = refl
-    low6 false false true = refl
-    low6 false false false = refl
-
-    low5 : (t f b : Bool) → dq5 (128 + cond t 64 0 + cond f 32 0 + cond b 8 0) ≡ cond f 1 0
-    low5 true true true = refl
-    low5 true true false = refl
-    low5 true false true = refl
-    low5 true false false = refl
-    low5 false true true = refl
-    low5 false true false = refl
-    low5 false false true = refl
-    low5 false false false = refl
-
-    high7 : (t f b : Bool) → dq7 (0 + cond t 64 0 + cond f 32 0 + cond b 8 0) ≡ 0
-    high7 true true true = refl
-    high7 true true false = refl
-    high7 true false true = refl
-    high7 true false false = refl
-    high7 false true true = refl
-    high7 false true false = refl
-    high7 false false true = refl
-    high7 false false false = refl
-
-    high6 : (t f b : Bool) → dq6 (0 + cond t 64 0 + cond f 32 0 + cond b 8 0) ≡ cond t 1 0
-    high6 true true true = refl
-    high6 true true false = refl
-    high6 true false true = refl
-    high6 true false false = refl
-    high6 false true true = refl
-    high6 false true false = refl
-    high6 false false true = refl
-    high6 false false false = refl
-
-    high5 : (t f b : Bool) → dq5 (0 + cond t 64 0 + cond f 32 0 + cond b 8 0) ≡ cond f 1 0
-    high5 true true true = refl
-    high5 true true false = refl
-    high5 true false true = refl
-    high5 true false false = refl
-    high5 false true true = refl
-    high5 false true false = refl
-    high5 false false true = refl
-    high5 false false false = refl
 
 -- At the address for a block's guard, the address bits ask whether the block is protected.
 asks : Plan → ℕ → Bool
