@@ -1,22 +1,23 @@
 -- A burn, in the words of a part.
-use Rattle.std.proofs.Common.{◌≡◌, ℕ, ◌+◌, ◌%◌, Bool, true, false, cond, not, eqb, length, set, Some, None, Ok, Err, Option, sym, refl, ap, ◌∙◌, subst, inl, inr, arith, lit≤}
+use Rattle.std.proofs.Common.{◌≡◌, ℕ, ◌+◌, ◌%◌, Bool, true, false, cond, eqb, Some, None, Err, Option, Result, sym, refl, ap, ◌∙◌, subst, inl, inr, arith}
 use Rattle.std.proofs.lemmas.Bool.{cases_Bool, cond-true, cond-false}
 use Rattle.fault.specs.declared.cause.Cause.{Cause}
 use Rattle.fault.specs.declared.cause.Cause.TheVariants.{ErasureInTheWay, Guarded, NeedsErase, Worn}
 use Rattle.fault.specs.Causes.{number_of}
+use Rattle.fault.specs.declared.faults.PartFault.{PartFault}
 use Rattle.fault.specs.Limits.{needs_erase}
 use Rattle.geometry.specs.Sets.{has}
-use Rattle.part.specs.Meaning.{Erasure, Meaning, cell, block, guarded, worn, with_cells, ticked}
+use Rattle.part.specs.Meaning.{Meaning, cell, block, guarded, worn}
 use Rattle.part.specs.Calls.{answer, bars, outside, burn_no, Refused, BurntBy}
 use Rattle.part.specs.Standings.{barred, burn_why}
 use Rattle.driver.specs.declared.notes.Notes.{Notes}
-use Rattle.driver.specs.Rig.{Doing, resting, start, Rig, later, SameChip, inside, erasure_in, meaning, program_time}
-use Rattle.driver.specs.Cycles.{Burnable, Shows}
+use Rattle.driver.specs.Rig.{Rig, inside, meaning}
+use Rattle.driver.specs.Cycles.{Shows}
 use Rattle.driver.specs.Sound.{Sound}
-use Rattle.driver.specs.Notes.{agrees, Tied}
+use Rattle.driver.specs.Notes.{Tied}
 use Rattle.driver.specs.Calls.{Burns}
-use Rattle.driver.specs.Steps.{Programs}
-use Rattle.driver.proofs.Changing.{same_cycle, same_more, only_read}
+use Rattle.driver.specs.Steps.{Free, MayBurn}
+use Rattle.driver.proofs.Changing.{same_cycle, only_read}
 use Rattle.driver.proofs.Reading.{bars_is, same_means, within_is, free_read}
 
 -- what is left to be checked once nothing else refuses a burn
@@ -80,7 +81,7 @@ module _ (r k : Rig) (n : Notes) (a old byte : ℕ) (sound : Sound r) (t : Tied 
       no_is m a old byte (within_is r a sound i) (λ free. (free_read r k n a old t x free).cell)
       ∙ ap (λ (c : Option Cause). or_worn c (worn m b)) (sym why_is)
 
-  pub burn_refused : (c : Cause) → why ≡ Some c → Burns r a byte (Err (record { cause = c; place = a })) k
+  burn_refused : (c : Cause) → why ≡ Some c → Burns r a byte (Err (record { cause = c; place = a })) k
   burn_refused c e =
       let no : burn_no m a byte ≡ Some c = burn_no_is ∙ ap (λ (o : Option Cause). or_worn o (worn m b)) e in
       let not_worn : eqb (number_of c) 8 ≡ false = small (bars m b) (guarded m b) old byte c (sym why_is ∙ e) in
@@ -96,76 +97,21 @@ module _ (r k : Rig) (n : Notes) (a old byte : ℕ) (sound : Sound r) (t : Tied 
         chip = same_cycle r k (only_read r k a old x);
       }
 
-  pub burn_free : why ≡ None → (Burnable k a byte) × (k ≡ r) × (r.doing ≡ resting None start)
-  burn_free e =
+  free : why ≡ None → Free r a byte k
+  free e =
       let p = passed (bars m b) (guarded m b) old byte (sym why_is ∙ e) in
       let f = free_read r k n a old t x p.0 in
-      let c : needs_erase (cell m a) byte ≡ false = ap (λ (d : ℕ). needs_erase d byte) (sym f.cell) ∙ p.2 in
-      (subst (λ (y : Rig). Burnable y a byte) (sym f.same) (record { within = i; unguarded = p.1; clears = c }), f.same, f.rests)
+      record {
+        burnable = record { within = i; unguarded = p.1; clears = ap (λ (d : ℕ). needs_erase d byte) (sym f.cell) ∙ p.2 };
+        rests = f.rests;
+        no = burn_no_is ∙ ap (λ (o : Option Cause). or_worn o (worn m b)) e;
+        same = f.same;
+      }
 
-  -- what the program leaves
-  module _ (e : why ≡ None) (s : Rig) (ok : Bool) (p : Programs k a byte ok s) where
-    result : (ok ≡ not (worn m b)) × (s ≡ later r (program_time r a) (cond (worn m b) r.cells (set r.cells a byte)) (resting None start))
-    result =
-        let f = burn_free e in
-        let q = p.done f.0 (ap (λ (y : Rig). y.doing) f.1 ∙ f.2) in
-        let P : Rig → Type 0 = λ y. (ok ≡ not (worn (meaning y) (block (meaning y) a)))
-        × (s ≡ later y (program_time y a) (cond (worn (meaning y) (block (meaning y) a)) y.cells (set y.cells a byte)) (resting None start)) in
-        subst P f.1 q
-
-    same_chip : SameChip r s
-    same_chip = same_more r k s (same_cycle r k (only_read r k a old x)) p.same
-
-    none_stands : erasure_in r.doing ≡ None
-    none_stands = ap erasure_in (burn_free e).2
-
-    means : (w : Bool) → worn m b ≡ w → (d : ℕ) → cond w 300 r.program ≡ d → meaning s ≡ ticked (with_cells m (cond w r.cells (set r.cells a byte))) d
-    means w h d g =
-        ap meaning result.1
-        ∙ ap (λ (u : Bool). meaning (later r (cond u 300 r.program) (cond u r.cells (set r.cells a byte)) (resting None start))) h
-        ∙ ap (λ (y : ℕ). meaning (later r y (cond w r.cells (set r.cells a byte)) (resting None start))) g
-        ∙ ap (λ (o : Option Erasure). record (ticked (with_cells m (cond w r.cells (set r.cells a byte))) d) { erasure = o }) (sym none_stands)
-
-    pub burn_done : ok ≡ true → Burns r a byte (Ok tt) s
-    burn_done h =
-        let good : worn m b ≡ false = by (worn m b) (sym h ∙ result.0) in
-        let no : burn_no m a byte ≡ None = burn_no_is ∙ ap (λ (o : Option Cause). or_worn o (worn m b)) e ∙ cond-false (worn m b) _ _ good in
-        let is = means false good r.program refl in
-        record {
-          answer = sym (ap (λ (o : Option Cause). answer o a tt) no);
-          burnt =
-              subst (λ (o : Option Cause). BurntBy m a byte o (meaning s)) (sym no)
-              (record { time = r.program; low = sound.program_least; high = sound.program_most; is = is });
-          time = ap (λ (y : Meaning). y.clock) is;
-          chip = same_chip;
-        }
-      where
-        by : (w : Bool) → true ≡ not w → w ≡ false
-        by true z = z
-        by false z = refl
-
-    pub burn_worn : ok ≡ false → Burns r a byte (Err (record { cause = Worn; place = a })) s
-    burn_worn h =
-        let bad : worn m b ≡ true = by (worn m b) (sym h ∙ result.0) in
-        let no : burn_no m a byte ≡ Some Worn = burn_no_is ∙ ap (λ (o : Option Cause). or_worn o (worn m b)) e ∙ cond-true (worn m b) _ _ bad in
-        let is = means true bad 300 refl in
-        record {
-          answer = sym (ap (λ (o : Option Cause). answer o a tt) no);
-          burnt =
-              subst (λ (o : Option Cause). BurntBy m a byte o (meaning s)) (sym no)
-              (record { time = 300; low = lit≤ tt; high = lit≤ tt; is = is });
-          time = ap (λ (y : Meaning). y.clock) is;
-          chip = same_chip;
-        }
-      where
-        by : (w : Bool) → false ≡ not w → w ≡ true
-        by true z = refl
-        by false z = z
-
-    pub burn_tied : Tied s n
-    burn_tied = record {
-      knows = λ c. t.knows c ∙ sym (ap (λ (y : Rig). guarded (meaning y) c) result.1);
-      follows =
-          ap (λ (y : Rig). agrees (length y.sheet.sizes) y.doing n.standing) result.1
-          ∙ ap (λ (d : Doing). agrees (length r.sheet.sizes) d n.standing) (sym (burn_free e).2) ∙ t.follows;
-    }
+  -- the answer to whether it may be burnt
+  pub may_burn : (c : Option Cause) → c ≡ why → (answered : Result (Unit {0}) PartFault) → answered ≡ answer c a tt → MayBurn r a byte answered k
+  may_burn c is answered g = subst (λ (z : Result (Unit {0}) PartFault). MayBurn r a byte z k) (sym g) (by c (sym is))
+    where
+      by : (c : Option Cause) → why ≡ c → MayBurn r a byte (answer c a tt) k
+      by None e = free e
+      by (Some x) e = burn_refused x e

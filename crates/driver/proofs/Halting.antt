@@ -1,11 +1,16 @@
 -- The turns of a suspension, up to its end.
-use Rattle.std.proofs.Common.{◌≡◌, ℕ, ◌+◌, ◌-◌, ◌<◌, ◌≤◌, Bool, true, false, cond, not, eqb, Some, sym, refl, ap, ◌∙◌, subst, inl, inr, arith, lit≤}
+use Rattle.std.proofs.Common.{◌≡◌, ℕ, ◌+◌, ◌-◌, ◌<◌, ◌≤◌, Bool, true, false, cond, not, eqb, length, Some, sym, refl, ap, ◌∙◌, subst, inl, inr, arith, lit≤}
 use Rattle.std.proofs.lemmas.Bool.{cases_lt, eq-eqb, both_ways}
+use Rattle.part.specs.declared.answers.Standing.{Standing}
+use Rattle.part.specs.declared.answers.Standing.TheVariants.{Running, Suspended}
 use Rattle.part.specs.Meaning.{block}
+use Rattle.driver.specs.declared.notes.Notes.{Notes}
+use Rattle.driver.specs.Notes.{agrees, Tied}
+use Rattle.driver.specs.ProofOfLawful.{is_erases, when_running}
 use Rattle.driver.specs.Rig.{Job, Doing, resting, stopping, start, Rig, later, SameChip, meaning}
 use Rattle.driver.specs.Status.{dq6}
 use Rattle.driver.specs.Cycles.{Shows, Elapses}
-use Rattle.driver.specs.Steps.{LooksTwice, Halts}
+use Rattle.driver.specs.Steps.{LooksTwice, Halts, Suspends}
 use Rattle.driver.proofs.Changing.{later_more, still_read, same_more, same_cycle, same_later, only_read}
 
 abbrev pub with_toggle : Job → Bool → Job
@@ -92,3 +97,15 @@ pub turned_after : (r : Rig) (a : ℕ) (j : Job) → block (meaning r) a ≡ j.b
     → (answer : Bool) (s : Rig) → LooksTwice h a answer s → Turned r j i answer s
 turned_after r a j own i h inv answer s p =
     turned r a j own i inv.1.0 inv.0 answer s (subst (λ (y : Rig). LooksTwice y a answer s) inv.1.1 p)
+
+-- A suspended erase is the one that the notes say is held.
+pub held_tied : (r s : Rig) (n : Notes) (b : ℕ) → Tied r n → n.standing ≡ Running b → Suspends r b s
+    → Tied s (record { guards = n.guards; standing = Suspended b })
+held_tied r s n b t runs k =
+    let sizes = length r.sheet.sizes in
+    let w = when_running sizes b r.doing (subst (λ (st : Standing). agrees sizes r.doing st ≡ true) runs t.follows) in
+    let h = k.suspended w.2.within w.0 w.1 w.2.block in
+    subst (λ (y : Rig). Tied y (record { guards = n.guards; standing = Suspended b })) (sym h.1) (record {
+      knows = t.knows;
+      follows = is_erases sizes b (with_toggle w.0 h.0) (record { block = w.2.block; within = w.2.within; lasts = w.2.lasts });
+    })

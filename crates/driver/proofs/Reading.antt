@@ -123,3 +123,24 @@ free_read r s n a byte t x b =
       same = still_read r s a byte (resting None start) rest refl x;
       cell = cell_read r s n a byte t x (hides_none (meaning r) (block (meaning r) a) none);
     }
+
+-- A read leaves the notes tied.
+agrees_flipped : (n : ℕ) (d : Doing) (st : Standing) → agrees n (flipped d) st ≡ agrees n d st
+agrees_flipped n (resting o p) st = refl
+agrees_flipped n (naming z) st = refl
+agrees_flipped n (programming p o) st = refl
+agrees_flipped n (erasing j) Idle = refl
+agrees_flipped n (erasing j) (Running b) = refl
+agrees_flipped n (erasing j) (Suspended b) = refl
+agrees_flipped n (stopping j w) st = refl
+agrees_flipped n (failed z w t o) st = refl
+agrees_flipped n other st = refl
+
+pub read_tied : (r s : Rig) (n : Notes) (a byte : ℕ) → Tied r n → Shows r a byte s → Tied s n
+read_tied r s n a byte t x = elim x.only [
+  | inl e ↦ subst (λ (y : Rig). Tied y n) (sym e) t
+  | inr e ↦ subst (λ (y : Rig). Tied y n) (sym e) (record {
+    knows = t.knows;
+    follows = agrees_flipped (length r.sheet.sizes) r.doing n.standing ∙ t.follows;
+  })
+]

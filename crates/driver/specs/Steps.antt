@@ -1,5 +1,5 @@
 -- What the steps of the driver's calls do to a chip. Each says it of a chip that is ready for the step, and of any chip that it stays the same chip.
-use Rattle.std.specs.Prelude.{◌≡◌, ℕ, ◌<◌, Bool, false, not, length, Some, None, ◌==◌, if◌then◌else◌, slice_set}
+use Rattle.std.specs.Prelude.{◌≡◌, ℕ, ◌<◌, Bool, false, not, length, Some, None, Ok, Err, Result, ◌==◌, if◌then◌else◌, slice_set}
 use Rattle.geometry.specs.declared.set.BlockSet.{BlockSet}
 use Rattle.geometry.specs.Sets.{has}
 use Rattle.geometry.specs.Blocks.{start_of}
@@ -7,11 +7,15 @@ use Rattle.part.specs.declared.answers.Progress.{Progress}
 use Rattle.part.specs.declared.answers.Progress.TheVariants.{Running, Finished, Worn}
 use Rattle.part.specs.declared.answers.Standing.{Standing}
 use Rattle.part.specs.declared.answers.Standing.TheVariants.{Idle, Running as Runs}
+use Rattle.fault.specs.declared.cause.Cause.TheVariants.{Worn as Blocked}
+use Rattle.fault.specs.declared.faults.PartFault.{PartFault}
+use Rattle.part.specs.Calls.{burn_no}
 use Rattle.part.specs.Meaning.{cell, block, guarded, worn}
 use Rattle.driver.specs.declared.verdict.Verdict.{Verdict}
 use Rattle.driver.specs.declared.verdict.Verdict.TheVariants.{Busy, Done, Failed}
 use Rattle.driver.specs.Rig.{Job, resting, naming, programming, erasing, stopping, failed, start, unlocked, program_setup, erase_setup, erase_unlocked, Rig, does, later, SameChip, meaning, program_time, erase_time}
 use Rattle.driver.specs.Status.{dq6, judged}
+use Rattle.driver.specs.Calls.{Burns}
 use Rattle.driver.specs.Cycles.{Turns, Burnable, Heeds, Shows, Elapses, flip_job}
 
 -- what the look at the end of a pass means
@@ -24,6 +28,17 @@ abbrev pub stands_after : ℕ → Verdict → Standing
 stands_after b Busy = Runs b
 stands_after b Done = Idle
 stands_after b Failed = Idle
+
+-- A burn is refused, or only a worn block can still be in its way: then no erasure stands, and the chip is as it was.
+pub record Free (r : Rig) (a byte : ℕ) (k : Rig) : Type 0 where
+  pub burnable : Burnable r a byte
+  pub rests : r.doing ≡ resting None start
+  pub no : burn_no (meaning r) a byte ≡ (if worn (meaning r) (block (meaning r) a) then Some Blocked else None)
+  pub same : k ≡ r
+
+abbrev pub MayBurn : Rig → ℕ → ℕ → Result (Unit {0}) PartFault → Rig → Type 0
+MayBurn r a byte (Ok done) k = Free r a byte k
+MayBurn r a byte (Err fault) k = Burns r a byte (Err fault) k
 
 -- the two unlocking writes
 pub record Unlocks (r s : Rig) : Type 0 where

@@ -1,9 +1,10 @@
 // The driver's calls on the bus of a chip and its own notes. Each is whole: it refuses what is to be refused, and where the notes are tied to the chip it
 // does what a part does, and leaves them tied. The type of a chip's family hands its calls on to these.
-ghost use Rattle.std.specs.Prelude.{◌≡◌};
-ghost use Rattle.driver.specs.Rig.{resting, start};
+ghost use Rattle.std.specs.Prelude.{◌≡◌, OnOk, true};
+ghost use Rattle.driver.specs.Rig.{resting, start, inside};
 ghost use Rattle.driver.specs.Notes.{Tied};
 ghost use Rattle.driver.specs.Calls.{Peeks, Burns, Begins, Holds, GoesOn, Waits};
+ghost use Rattle.driver.specs.Steps.{MayBurn};
 
 use crate::bus::Bus;
 use crate::commands::collect;
@@ -41,13 +42,22 @@ pub fn peek<B: Bus>(bus: &mut B, notes: &Notes, address: u32) -> Result<u8, Part
     Ok(seen)
 }
 
+// Refuses a burn for every cause but a worn block, which shows only once the chip has failed.
+fn may_burn<B: Bus>(bus: &mut B, notes: &Notes, address: u32, byte: u8) -> Result<(), PartFault>
+    ensures within { OnOk result (inside (B.Bus.rig bus.new).sheet address ≡ true) }
+    ensures call { Tied (B.Bus.rig bus.old) notes.now → MayBurn (B.Bus.rig bus.old) address byte result (B.Bus.rig bus.new) }
+    ensures tied { Tied (B.Bus.rig bus.old) notes.now → Tied (B.Bus.rig bus.new) notes.now }
+{
+    let old = bus.read(address)?;
+    granted(notes.burn_why(bus.block_at(address), old, byte), address)
+}
+
 /// Burns a byte into a cell, and polls the chip until it is done or has failed.
 pub fn burn<B: Bus>(bus: &mut B, notes: &Notes, address: u32, byte: u8) -> Result<(), PartFault>
     ensures call { Tied (B.Bus.rig bus.old) notes.now → Burns (B.Bus.rig bus.old) address byte result (B.Bus.rig bus.new) }
     ensures tied { Tied (B.Bus.rig bus.old) notes.now → Tied (B.Bus.rig bus.new) notes.now }
 {
-    let old = bus.read(address)?;
-    granted(notes.burn_why(bus.block_at(address), old, byte), address)?;
+    may_burn(bus, notes, address, byte)?;
     if program(bus, address, byte) {
         Ok(())
     } else {
