@@ -8,17 +8,18 @@ mod steps;
 mod together;
 mod watch;
 
-use array::Layout;
-use chip::Setup;
-use driver::Driven;
+use array::{Array, Layout};
+use chip::{Chip, Setup};
 use errand::Errand;
+use geometry::BlockSet;
 use joined::Joined;
 use steps::Bench;
-use workbench::{BENCH_CHIP, Trouble, blank_array, blank_chip};
+use tc58::driven;
+use workbench::{BENCH_CHIP, Trouble};
 
 // The bench chip with block 0 protected.
 const SETUP: Setup = Setup {
-    protected: 0x001,
+    protected: BlockSet { mask: 0x001 },
     ..BENCH_CHIP
 };
 
@@ -33,7 +34,7 @@ fn three_parts(rt: &HostRuntime) -> Result<(), Trouble> {
     Errand {
         rt,
         name: "An array",
-        part: blank_array(rt.alloc(), LAYOUT)?,
+        part: Array::blank(rt.alloc(), LAYOUT)?,
         at: 0,
         block: 1,
     }
@@ -41,13 +42,13 @@ fn three_parts(rt: &HostRuntime) -> Result<(), Trouble> {
     Errand {
         rt,
         name: "A driven bench chip",
-        part: Driven::new(blank_chip(rt.alloc(), SETUP)?),
+        part: driven(Chip::blank(rt.alloc(), SETUP)?),
         at: 0x400,
         block: 2,
     }
     .run()?;
-    let first = blank_array(rt.alloc(), LAYOUT)?;
-    let second = Driven::new(blank_chip(rt.alloc(), SETUP)?);
+    let first = Array::blank(rt.alloc(), LAYOUT)?;
+    let second = driven(Chip::blank(rt.alloc(), SETUP)?);
     Errand {
         rt,
         name: "Both, end to end",
@@ -61,7 +62,7 @@ fn three_parts(rt: &HostRuntime) -> Result<(), Trouble> {
 fn main(rt: HostRuntime) -> Result<(), Trouble> {
     let mut bench = Bench {
         rt: &rt,
-        chip: blank_chip(rt.alloc(), SETUP)?,
+        chip: Chip::blank(rt.alloc(), SETUP)?,
     };
     bench.describe()?;
     bench.identify()?;

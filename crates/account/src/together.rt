@@ -1,12 +1,13 @@
 // A rehearsal: the same calls on a console over a quick part and on one over a slow part, side by side.
-use array::Layout;
-use chip::Setup;
+use array::{Array, Layout};
+use chip::{Chip, Setup};
 use console::{Call, Console};
-use driver::Driven;
+use geometry::BlockSet;
 use rehearsal::{Seats, rehearse};
 use script::Reply;
 use std::alloc::{AllocError, Global};
-use workbench::{Trouble, blank_array, blank_chip};
+use tc58::driven;
+use workbench::Trouble;
 
 // The quick console's part.
 const QUICK: Layout = Layout {
@@ -20,8 +21,8 @@ const SLOW: Setup = Setup {
     program: 300,
     erase: 10_000_000,
     suspend: 15,
-    protected: 0,
-    worn: 0,
+    protected: BlockSet::NONE,
+    worn: BlockSet::NONE,
 };
 
 // Position 3 is stored eight times: the books change at the last, and what follows comes in the middle of an erasure.
@@ -102,8 +103,8 @@ fn print_row(rt: &HostRuntime, call: &str, quick: Reply, slow: Reply) -> Result<
 // The rehearsal, with its account.
 pub fn run(rt: &HostRuntime) -> Result<(), Trouble> {
     let heap = rt.alloc();
-    let mut quick = Console::new(blank_array(heap, QUICK)?);
-    let mut slow = Console::new(Driven::new(blank_chip(heap, SLOW)?));
+    let mut quick = Console::new(Array::blank(heap, QUICK)?);
+    let mut slow = Console::new(driven(Chip::blank(heap, SLOW)?));
     let on_array = Seats {
         first: 0,
         second: 1,

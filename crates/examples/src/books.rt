@@ -1,19 +1,19 @@
 // Worked examples of a console on the bench chip, whose books are blocks 1 and 2: what the calls leave in the cells.
-use chip::Setup;
+use chip::{Chip, Setup};
 use console::Console;
-use driver::Driven;
 use part::{Part, Standing, Turn};
-use workbench::{Trouble, blank_chip};
+use tc58::{DrivenChip, driven};
+use workbench::Trouble;
 
 // A console that is open on blank books.
-fn opened(rt: &HostRuntime, setup: Setup) -> Result<Console<Driven>, Trouble> {
-    let mut console = Console::new(Driven::new(blank_chip(rt.alloc(), setup)?));
+fn opened(rt: &HostRuntime, setup: Setup) -> Result<Console<DrivenChip>, Trouble> {
+    let mut console = Console::new(driven(Chip::blank(rt.alloc(), setup)?));
     console.open(1, 2)?;
     Ok(console)
 }
 
 // Prints what the cells hold, and says whether it is what they should.
-fn cells(rt: &HostRuntime, part: &mut Driven, expected: &[(u32, u8)]) -> Result<(), Trouble> {
+fn cells(rt: &HostRuntime, part: &mut DrivenChip, expected: &[(u32, u8)]) -> Result<(), Trouble> {
     let mut right = true;
     for (address, byte) in expected {
         let cell = part.peek(*address)?;

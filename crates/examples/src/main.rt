@@ -5,13 +5,14 @@ mod books;
 mod cycle;
 mod table;
 
+use chip::Chip;
 use cycle::Cycle;
 use table::{EXAMPLES, Example};
-use workbench::{BENCH_CHIP, Trouble, blank_chip};
+use workbench::{BENCH_CHIP, Trouble};
 
 // Runs an example on a fresh chip, prints the bytes that are read, and says whether they are the expected ones.
 fn run(rt: &HostRuntime, example: &Example) -> Result<(), Trouble> {
-    let mut chip = blank_chip(rt.alloc(), BENCH_CHIP)?;
+    let mut chip = Chip::blank(rt.alloc(), BENCH_CHIP)?;
     let mut right = true;
     print!(rt; "{}:", example.name)?;
     for &cycle in example.cycles {

@@ -8,8 +8,8 @@ use crate::kind::Kind;
 use crate::one_of::OneOf;
 use crate::pile::{Piece, Pile};
 use crate::unmade::Unmade;
-use joined::Joined;
 use fault::{Cause, PartFault};
+use joined::Joined;
 use part::Part;
 use std::alloc::{AllocError, Global};
 

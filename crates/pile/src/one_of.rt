@@ -1,5 +1,5 @@
-use geometry::Block;
 use fault::PartFault;
+use geometry::Block;
 use part::{Part, Progress, Shape, Turn};
 
 /// One of two kinds of part, again a part: each call is the call of the part that it is.

@@ -1,10 +1,10 @@
 use crate::one_of::OneOf;
 use array::Array;
-use driver::Driven;
 use joined::Joined;
+use tc58::DrivenChip;
 
 /// One piece: a chip under its driver, or an array.
-pub type Piece = OneOf<Driven, Array>;
+pub type Piece = OneOf<DrivenChip, Array>;
 
 /// Two pieces end to end.
 pub type Two = Joined<Piece, Piece>;

@@ -22,7 +22,7 @@ use Rattle.script.specs.declared.entry.Entry.{Entry}
 use Rattle.script.specs.declared.entry.Entry.TheVariants as entries
 use Rattle.script.specs.Answers.{sixteen}
 use Rattle.naming.specs.Taking.{Words, numbered, number_at, small_at, large_at}
-use Rattle.naming.specs.Setups.{geometry_at, mask_at, setup_at}
+use Rattle.naming.specs.Setups.{geometry_at, set_at, setup_at}
 use Rattle.script.specs.Grammar.{layout_at, piece_at, joined_at, pieces_of, seats_at, position_of, rest_of, asked, words_read, chip_at}
 use Rattle.script.specs.Laws.{geometry_word, kind_words, pieces_words, call_words, request_words, written, ProperKind, ProperPieces, ProperSeats, ProperCall, ProperRequest, Proper, EntriesAgain, StopsAgain}
 use Rattle.script.proofs.Plain.{is_plain, all_append, digits_plain, line_of_words, number_plain}
@@ -46,24 +46,24 @@ geometry_again (suc zero) ws h = refl
 geometry_again (suc (suc zero)) ws h = refl
 geometry_again (suc (suc (suc k))) ws h = absurd (omega arith)
 
-protect_again : (n : ℕ) (ws : Words) → n < 2 ^ 32 → mask_at (codes "protect") (codes "protect" ∷ decimal n ∷ ws) ≡ Ok (n, ws)
-unfolding mask_at
-protect_again n ws small = small_again n ws small
+protect_again : (n : ℕ) (ws : Words) → n < 2 ^ 32 → set_at (codes "protect") (codes "protect" ∷ decimal n ∷ ws) ≡ Ok (record { mask = n }, ws)
+unfolding set_at
+protect_again n ws small = rw (small_again n ws small) refl
 
-worn_again : (n : ℕ) (ws : Words) → n < 2 ^ 32 → mask_at (codes "worn") (codes "worn" ∷ decimal n ∷ ws) ≡ Ok (n, ws)
-unfolding mask_at
-worn_again n ws small = small_again n ws small
+worn_again : (n : ℕ) (ws : Words) → n < 2 ^ 32 → set_at (codes "worn") (codes "worn" ∷ decimal n ∷ ws) ≡ Ok (record { mask = n }, ws)
+unfolding set_at
+worn_again n ws small = rw (small_again n ws small) refl
 
 kind_again : (k : Kind) (ws : Words) → ProperKind k → piece_at (kind_words k ++ ws) ≡ Ok (k, ws)
 unfolding piece_at setup_at layout_at chip_at
 kind_again (Chip s) ws h =
     rw (
-      geometry_again s.kind (decimal s.program ∷ decimal s.erase ∷ decimal s.suspend ∷ codes "protect" ∷ decimal s.protected ∷ codes "worn" ∷ decimal s.worn ∷ ws) h.kind,
-      small_again s.program (decimal s.erase ∷ decimal s.suspend ∷ codes "protect" ∷ decimal s.protected ∷ codes "worn" ∷ decimal s.worn ∷ ws) h.program,
-      small_again s.erase (decimal s.suspend ∷ codes "protect" ∷ decimal s.protected ∷ codes "worn" ∷ decimal s.worn ∷ ws) h.erase,
-      small_again s.suspend (codes "protect" ∷ decimal s.protected ∷ codes "worn" ∷ decimal s.worn ∷ ws) h.suspend,
-      protect_again s.protected (codes "worn" ∷ decimal s.worn ∷ ws) h.protected,
-      worn_again s.worn ws h.worn,
+      geometry_again s.kind (decimal s.program ∷ decimal s.erase ∷ decimal s.suspend ∷ codes "protect" ∷ decimal s.protected.mask ∷ codes "worn" ∷ decimal s.worn.mask ∷ ws) h.kind,
+      small_again s.program (decimal s.erase ∷ decimal s.suspend ∷ codes "protect" ∷ decimal s.protected.mask ∷ codes "worn" ∷ decimal s.worn.mask ∷ ws) h.program,
+      small_again s.erase (decimal s.suspend ∷ codes "protect" ∷ decimal s.protected.mask ∷ codes "worn" ∷ decimal s.worn.mask ∷ ws) h.erase,
+      small_again s.suspend (codes "protect" ∷ decimal s.protected.mask ∷ codes "worn" ∷ decimal s.worn.mask ∷ ws) h.suspend,
+      protect_again s.protected.mask (codes "worn" ∷ decimal s.worn.mask ∷ ws) h.protected,
+      worn_again s.worn.mask ws h.worn,
     ) refl
 kind_again (Array l) ws h = rw (small_again l.count (decimal l.width ∷ ws) h.0, small_again l.width ws h.1) refl
 
@@ -127,12 +127,12 @@ geometry_plain (suc (suc (suc k))) h = absurd (omega arith)
 
 kind_plain : (k : Kind) → ProperKind k → list_all is_plain (kind_words k) ≡ true
 kind_plain (Chip s) h =
-    let worn = number_plain s.worn [] (omega (arith, h.worn)) refl in
-    let protected = number_plain s.protected (codes "worn" ∷ decimal s.worn ∷ []) (omega (arith, h.protected)) worn in
-    let suspend = number_plain s.suspend (codes "protect" ∷ decimal s.protected ∷ codes "worn" ∷ decimal s.worn ∷ []) (omega (arith, h.suspend)) protected in
-    let erase = number_plain s.erase (decimal s.suspend ∷ codes "protect" ∷ decimal s.protected ∷ codes "worn" ∷ decimal s.worn ∷ []) (omega (arith, h.erase)) suspend in
-    let program = number_plain s.program (decimal s.erase ∷ decimal s.suspend ∷ codes "protect" ∷ decimal s.protected ∷ codes "worn" ∷ decimal s.worn ∷ []) (omega (arith, h.program)) erase in
-    and_from (is_plain (geometry_word s.kind)) (list_all is_plain (decimal s.program ∷ decimal s.erase ∷ decimal s.suspend ∷ codes "protect" ∷ decimal s.protected ∷ codes "worn" ∷ decimal s.worn ∷ [])) (geometry_plain s.kind h.kind) program
+    let worn = number_plain s.worn.mask [] (omega (arith, h.worn)) refl in
+    let protected = number_plain s.protected.mask (codes "worn" ∷ decimal s.worn.mask ∷ []) (omega (arith, h.protected)) worn in
+    let suspend = number_plain s.suspend (codes "protect" ∷ decimal s.protected.mask ∷ codes "worn" ∷ decimal s.worn.mask ∷ []) (omega (arith, h.suspend)) protected in
+    let erase = number_plain s.erase (decimal s.suspend ∷ codes "protect" ∷ decimal s.protected.mask ∷ codes "worn" ∷ decimal s.worn.mask ∷ []) (omega (arith, h.erase)) suspend in
+    let program = number_plain s.program (decimal s.erase ∷ decimal s.suspend ∷ codes "protect" ∷ decimal s.protected.mask ∷ codes "worn" ∷ decimal s.worn.mask ∷ []) (omega (arith, h.program)) erase in
+    and_from (is_plain (geometry_word s.kind)) (list_all is_plain (decimal s.program ∷ decimal s.erase ∷ decimal s.suspend ∷ codes "protect" ∷ decimal s.protected.mask ∷ codes "worn" ∷ decimal s.worn.mask ∷ [])) (geometry_plain s.kind h.kind) program
 kind_plain (Array l) h = number_plain l.count (decimal l.width ∷ []) (omega (arith, h.0)) (number_plain l.width [] (omega (arith, h.1)) refl)
 
 pieces_plain : (p : Pieces) → ProperPieces p → list_all is_plain (pieces_words p) ≡ true

@@ -2,6 +2,7 @@
 use Rattle.std.specs.Prelude.{◌≡◌, ℕ, ◌^◌, ◌<◌, List, [], ◌∷◌, ◌++◌, length, map, Some, Ok, codes, if◌then◌else◌, ◌==◌}
 use Rattle.std.specs.List.{flat_map, AllByRecursion}
 use Rattle.std.specs.Fmt.{decimal}
+use Rattle.geometry.specs.declared.kinds.TheConstants.{TOP, BOTTOM}
 use Rattle.chip.specs.declared.setup.Setup.{Setup}
 use Rattle.rehearsal.specs.declared.account.Seats.{Seats}
 use Rattle.console.specs.declared.call.Call.{Call}
@@ -21,15 +22,15 @@ use Rattle.naming.specs.Taking.{Words}
 use Rattle.script.specs.Grammar.{asked, line_read}
 use Rattle.script.specs.Scripts.{Plan, script_of}
 
--- The words of each entry, with all its numbers in decimal and both masks.
+-- The words of each entry, with all its numbers in decimal and both sets of blocks, each as its mask.
 
 abbrev pub geometry_word : ℕ → List ℕ
-geometry_word kind = if kind == 0 then codes "t004" else (if kind == 1 then codes "b004" else codes "bench")
+geometry_word kind = if kind == TOP then codes "t004" else (if kind == BOTTOM then codes "b004" else codes "bench")
 
 abbrev pub setup_words : Setup → Words
 setup_words s =
     codes "chip" ∷ geometry_word s.kind ∷ decimal s.program ∷ decimal s.erase ∷ decimal s.suspend
-    ∷ codes "protect" ∷ decimal s.protected ∷ codes "worn" ∷ decimal s.worn ∷ []
+    ∷ codes "protect" ∷ decimal s.protected.mask ∷ codes "worn" ∷ decimal s.worn.mask ∷ []
 
 abbrev pub kind_words : Kind → Words
 kind_words (Chip s) = setup_words s
@@ -65,8 +66,8 @@ pub record ProperSetup (s : Setup) : Type 0 where
   pub program : s.program < 2 ^ 32
   pub erase : s.erase < 2 ^ 32
   pub suspend : s.suspend < 2 ^ 32
-  pub protected : s.protected < 2 ^ 32
-  pub worn : s.worn < 2 ^ 32
+  pub protected : s.protected.mask < 2 ^ 32
+  pub worn : s.worn.mask < 2 ^ 32
 
 abbrev pub ProperKind : Kind → Type 0
 ProperKind (Chip s) = ProperSetup s

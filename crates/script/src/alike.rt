@@ -3,8 +3,8 @@ ghost use Rattle.std.specs.Prelude.{◌≡◌, ◌↔◌, IsTrue};
 ghost use Rattle.rehearsal.specs.Promises.{Same};
 ghost use Rattle.script.specs.Alike.{SameOpening};
 
-use fault::ConsoleFault;
 use console::{Answer, Said};
+use fault::ConsoleFault;
 
 fn same_fault(a: ConsoleFault, b: ConsoleFault) -> bool
     ensures { IsTrue result ↔ (a ≡ b) }

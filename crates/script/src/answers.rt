@@ -2,8 +2,8 @@
 ghost use Rattle.std.specs.Prelude.{Some};
 ghost use Rattle.script.specs.Answers.{said_text, refusal_text, open_text, reply_text, quiet_text, verdict_text};
 
-use fault::ConsoleFault;
 use console::{Answer, Said};
+use fault::ConsoleFault;
 use std::fmt;
 
 // What an accepted call says, but for the microseconds.

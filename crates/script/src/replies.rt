@@ -5,8 +5,8 @@ ghost use Rattle.script.specs.Alike.{SameReply};
 
 use crate::alike::{same_opening, same_reply};
 use crate::answers::{CallReply, OpenReply, QuietReply};
-use fault::ConsoleFault;
 use console::Answer;
+use fault::ConsoleFault;
 use std::fmt;
 
 /// What a console answers to a request.
