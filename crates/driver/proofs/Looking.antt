@@ -3,7 +3,7 @@ use Rattle.std.proofs.Common.{◌≡◌, ℕ, ◌<◌, not, ltb, length, get_or,
 use Rattle.std.proofs.lemmas.Bool.{cases_Bool, cond-true, cond-false}
 use Rattle.geometry.specs.declared.block.Block.{Block}
 use Rattle.part.specs.Calls.{block_at}
-use Rattle.geometry.specs.Blocks.{start_of}
+use Rattle.geometry.specs.Blocks.{start_of, block_of}
 use Rattle.driver.specs.declared.verdict.Verdict.{Verdict}
 use Rattle.driver.specs.declared.verdict.Verdict.TheVariants.{Busy, Done, Failed}
 use Rattle.driver.specs.Rig.{resting, erasing, failed, start, Rig, does, meaning, LiesIn}
@@ -34,7 +34,7 @@ looks r m s b byte v at x is h =
           let v_is : v ≡ Failed = is ∙ judged_failed byte 0xFF (lit≤ tt) t q.0 in
           let m_is : m ≡ does r (failed zone 0xFF (not t) None) = flip_read r m (failed zone 0xFF t None) e q.1 in
           let k = subst (λ (y : Verdict). Mends m a y s) v_is h in
-          (v_is, does_more r m s (failed zone 0xFF (not t) None) (resting None start) m_is (k.mends zone 0xFF (not t) None refl (ap (λ (y : Rig). y.doing) m_is)));
+          (v_is, does_more r m s (failed zone 0xFF (not t) None) (resting None start) m_is (k.mends zone 0xFF (not t) None (ap (λ (y : Rig). y.sheet.zone (block_of y.sheet.sizes a)) m_is ∙ ap r.sheet.zone (at l).1) refl (ap (λ (y : Rig). y.doing) m_is)));
       done = λ l e full.
           let q = x.rests None start e (λ j n. let no : ◌≡◌ {A = ℕ} 0 1 = cc in absurd (omega arith)) in
           let v_is : v ≡ Done = is ∙ judged_done byte 0xFF (q ∙ full) in

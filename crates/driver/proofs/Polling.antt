@@ -135,7 +135,7 @@ if_failed {v = v} (done e n x) f m h = ends_apart v e f
 if_failed {r = r} {a = a} {byte = byte} {s = s} (broken e n t x) f m h =
     let zone : ℕ = r.sheet.zone (block (meaning r) a) in (
       sym (ap not n),
-      h.mends zone byte t None refl (ap (λ (y : Rig). y.doing) x) ∙ ap (λ (y : Rig). does y (resting None start)) x
+      h.mends zone byte t None (ap (λ (y : Rig). y.sheet.zone (block (meaning y) a)) x) refl (ap (λ (y : Rig). y.doing) x) ∙ ap (λ (y : Rig). does y (resting None start)) x
           ∙ ap (λ (c : List ℕ). later r (program_time r a) c (resting None start)) (sym (cond-true (worn (meaning r) (block (meaning r) a)) r.cells (set r.cells a byte) n)),
     )
 

@@ -6,7 +6,7 @@ use Rattle.part.specs.declared.answers.Standing.{Standing}
 use Rattle.part.specs.declared.answers.Standing.TheVariants.{Idle, Running, Suspended}
 use Rattle.part.specs.Meaning.{Erasure, Meaning, cell, block, standing_of}
 use Rattle.part.specs.Calls.{answer, hides, bars, outside}
-use Rattle.part.specs.Standings.{stood, hid, barred}
+use Rattle.part.specs.Standings.{hid, barred}
 use Rattle.part.proofs.Standings.{hid_is, barred_is, hides_none, unbarred}
 use Rattle.driver.specs.declared.notes.Notes.{Notes}
 use Rattle.driver.specs.Rig.{Job, Doing, resting, naming, programming, erasing, stopping, failed, other, start, Rig, inside, erasure_in, meaning}
@@ -108,15 +108,15 @@ pub record Free (r s : Rig) (a byte : ℕ) : Type 0 where
   pub same : s ≡ r
   pub cell : byte ≡ cell (meaning r) a
 
-nothing_stands : (st : Standing) → stood st ≡ false → st ≡ Idle
-nothing_stands Idle e = refl
-nothing_stands (Running b) e = absurd (true≢false e)
-nothing_stands (Suspended b) e = absurd (true≢false e)
+nothing_stands : (st : Standing) (b : ℕ) → barred st b ≡ false → st ≡ Idle
+nothing_stands Idle b e = refl
+nothing_stands (Running own) b e = absurd (true≢false e)
+nothing_stands (Suspended own) b e = absurd (true≢false e)
 
 pub free_read : (r s : Rig) (n : Notes) (a byte : ℕ) → Tied r n → Shows r a byte s → bars (meaning r) (block (meaning r) a) ≡ false → Free r s a byte
 free_read r s n a byte t x b =
     let none = unbarred (meaning r) (block (meaning r) a) b in
-    let idle : n.standing ≡ Idle = nothing_stands n.standing (bars_is r n (block (meaning r) a) t ∙ b) in
+    let idle : n.standing ≡ Idle = nothing_stands n.standing (block (meaning r) a) (bars_is r n (block (meaning r) a) t ∙ b) in
     let rest : r.doing ≡ resting None start = when_idle (length r.sheet.sizes) r.doing (subst (λ (st : Standing). agrees (length r.sheet.sizes) r.doing st ≡ true) idle t.follows) in
     record {
       rests = rest;

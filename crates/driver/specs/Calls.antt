@@ -21,8 +21,8 @@ hold_time r Done = r.suspend
 hold_time r Nothing = 0
 
 -- the chip's count has moved by so many microseconds
-abbrev pub Took : Rig → ℕ → Rig → Type 0
-Took r n s = s.clock ≡ (r.clock + n) % 4294967296
+abbrev pub Lasts : Rig → ℕ → Rig → Type 0
+Lasts r n s = s.clock ≡ (r.clock + n) % 4294967296
 
 pub record Peeks (r : Rig) (a : ℕ) (result : Result ℕ PartFault) (s : Rig) : Type 0 where
   pub answer : result ≡ answer (peek_no (meaning r) a) a (cell (meaning r) a)
@@ -32,7 +32,7 @@ pub record Peeks (r : Rig) (a : ℕ) (result : Result ℕ PartFault) (s : Rig) :
 pub record Burns (r : Rig) (a byte : ℕ) (result : Result (Unit {0}) PartFault) (s : Rig) : Type 0 where
   pub answer : result ≡ answer (burn_no (meaning r) a byte) a tt
   pub burnt : Burnt (meaning r) a byte (meaning s)
-  pub time : Took r (burn_time r result) s
+  pub time : Lasts r (burn_time r result) s
   pub chip : SameChip r s
 
 pub record Begins (r : Rig) (b : ℕ) (result : Result (Unit {0}) PartFault) (s : Rig) : Type 0 where
@@ -44,7 +44,7 @@ pub record Begins (r : Rig) (b : ℕ) (result : Result (Unit {0}) PartFault) (s 
 pub record Holds (r : Rig) (result : Turn) (s : Rig) : Type 0 where
   pub answer : result ≡ can_hold (meaning r).erasure
   pub held : Held (meaning r) (meaning s)
-  pub time : Took r (hold_time r result) s
+  pub time : Lasts r (hold_time r result) s
   pub chip : SameChip r s
 
 pub record GoesOn (r : Rig) (result : Turn) (s : Rig) : Type 0 where

@@ -29,9 +29,9 @@ pub record Heeds (r : Rig) (a byte : ℕ) (s : Rig) : Type 0 where
   -- the two unlocking writes
   pub unlocks : (b : ℕ) → b < length r.sheet.sizes → Is a byte (r.sheet.first b) 0xAA → Turns r s (resting None start) (resting None first_unlock)
   pub has_unlocked : (b : ℕ) → b < length r.sheet.sizes → Is a byte (r.sheet.second b) 0x55 → Turns r s (resting None first_unlock) (resting None unlocked)
-  -- ID mode, and back
+  -- ID mode in a zone, and back
   pub identifies : (b : ℕ) → b < length r.sheet.sizes → Is a byte (r.sheet.first b) 0x90 → Turns r s (resting None unlocked) (naming (r.sheet.zone b))
-  pub back : (zone : ℕ) → byte ≡ 0xF0 → Turns r s (naming zone) (resting None start)
+  pub back : (zone : ℕ) → r.sheet.zone (block (meaning r) a) ≡ zone → byte ≡ 0xF0 → Turns r s (naming zone) (resting None start)
   -- a program
   pub sets_up : (b : ℕ) → b < length r.sheet.sizes → Is a byte (r.sheet.first b) 0xA0 → Turns r s (resting None unlocked) (resting None program_setup)
   pub programs : Burnable r a byte
@@ -47,7 +47,8 @@ pub record Heeds (r : Rig) (a byte : ℕ) (s : Rig) : Type 0 where
   pub suspends : (j : Job) → LiesIn r.sheet a j.block → byte ≡ 0xB0 → Turns r s (erasing j) (stopping j r.suspend)
   pub resumes : (j : Job) → LiesIn r.sheet a j.block → byte ≡ 0x30 → Turns r s (resting (Some j) start) (erasing j)
   -- reset after a failure
-  pub mends : (zone wanted : ℕ) (toggle : Bool) (o : Option Job) → byte ≡ 0xF0 → Turns r s (failed zone wanted toggle o) (resting o start)
+  pub mends : (zone wanted : ℕ) (toggle : Bool) (o : Option Job) → r.sheet.zone (block (meaning r) a) ≡ zone → byte ≡ 0xF0
+      → Turns r s (failed zone wanted toggle o) (resting o start)
 
 -- a write cycle: an address outside is refused, and nothing changes
 abbrev pub Writes : Rig → ℕ → ℕ → Result (Unit {0}) ChipFault → Rig → Type 0

@@ -4,11 +4,11 @@ use Rattle.geometry.specs.Blocks.{total, start_of}
 use Rattle.flash.specs.Limits.{longest_program, longest_erase, longest_suspension}
 use Rattle.driver.specs.Rig.{Sheet, Rig, inside, LiesIn}
 
--- The addresses that belong to a block lie inside the chip, and its start lies in it.
+-- The addresses that belong to a block lie inside the chip, and in the block its start and the one at which its guard is shown.
 pub record Addressed (sheet : Sheet) (b : ℕ) : Type 0 where
   pub first : inside sheet (sheet.first b) ≡ true
   pub second : inside sheet (sheet.second b) ≡ true
-  pub guard : inside sheet (sheet.guard b) ≡ true
+  pub guard : LiesIn sheet (sheet.guard b) b
   pub start : LiesIn sheet (start_of sheet.sizes b) b
 
 -- It has as many cells as its blocks have, at most 128 blocks, each guarded or not and worn or not, and its times are inside their limits.

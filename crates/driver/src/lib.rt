@@ -15,6 +15,6 @@ mod verdict;
 
 pub use bus::Bus;
 pub use calls::{begin, burn, go_on, hold, pass, peek, take};
-pub use driven::Driven;
+pub use driven::{Driven, Rigged};
 pub use notes::Notes;
 pub use seat::Seat;

@@ -8,7 +8,7 @@ use Rattle.geometry.specs.declared.block.Block.{Block}
 use Rattle.part.specs.declared.answers.Shape.{Shape}
 use Rattle.part.specs.Meaning.{Meaning, size, count, cell, shape_of}
 use Rattle.part.specs.declared.answers.Progress.{Progress}
-use Rattle.part.specs.Calls.{answer, stands, time_no, progress, block_at, peek_no, burn_no, begin_no, Burnt, Begun, passed}
+use Rattle.part.specs.Calls.{answer, stands, hides_beside, bars_beside, time_no, progress, block_at, peek_no, burn_no, begin_no, Burnt, Begun, passed}
 use Rattle.part.specs.Standings.{stood}
 use Rattle.part.proofs.Standings.{stood_is}
 use Rattle.part.specs.Laws.{Call, burn, begin}
@@ -16,7 +16,7 @@ use Rattle.part.specs.Neighbours.{elapsed}
 use Rattle.joined.specs.declared.aim.Aim.{Aim}
 use Rattle.joined.specs.declared.aim.Aim.TheVariants.{First, Second}
 use Rattle.joined.specs.Pile.{pile, no_part, joined, later, LaterRoom, placed}
-use Rattle.joined.specs.Sides.{Sides, Way, neither, hides_beside, bars_beside, peek_aim, burn_aim, begin_aim, aim_or, sent, Went, Called}
+use Rattle.joined.specs.Sides.{Sides, Way, neither, peek_aim, burn_aim, begin_aim, aim_or, sent, Went, Called}
 use Rattle.joined.proofs.Asking.{block_right, later_room}
 use Rattle.joined.proofs.Refusing.{cell_left, cell_right}
 use Rattle.joined.proofs.Living.{none_passed, begun_clock}

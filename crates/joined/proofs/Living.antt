@@ -10,7 +10,6 @@ use Rattle.part.specs.declared.answers.Turn.TheVariants.{Done, Nothing}
 use Rattle.part.specs.Calls.{stands, running, runs, Took, Refused, BurntBy, BegunBy, HeldBy, Held, can_hold, turned, gone_on, run_on, passed}
 use Rattle.part.specs.Neighbours.{elapsed}
 use Rattle.joined.specs.Pile.{raised, either, pile}
-use Rattle.joined.specs.Sides.{bars_beside}
 
 -- Without an erasure, and while it stands still, time only moves the clock.
 pub run_idle : (n : Meaning) (k : ℕ) (e : Option Erasure) → is_some e ≡ false → run_on n k e ≡ n
@@ -31,10 +30,6 @@ no_erasure (Some e) h = absurd (true≢false h)
 idle_still : (e : Option Erasure) → is_some e ≡ false → running e ≡ false
 idle_still None h = refl
 idle_still (Some e) h = absurd (true≢false h)
-
--- A side of which nothing is in the way of the other has no erasure that runs.
-pub unbarred_still : (n : Meaning) → bars_beside n ≡ false → runs n ≡ false
-unbarred_still n h = idle_still n.erasure h
 
 -- The time that one side's clock shows is the time that it took.
 beside : (c d t : ℕ) (n n' : Meaning) → runs n ≡ false → c < 4294967296 → d ≡ (c + t) % 4294967296 → t ≤ 300

@@ -8,9 +8,8 @@ use Rattle.fault.specs.declared.cause.Cause.{Cause}
 use Rattle.fault.specs.declared.cause.Cause.TheVariants.{ErasureInTheWay}
 use Rattle.geometry.proofs.Placing.{block_within}
 use Rattle.part.specs.Meaning.{Erasure, Meaning, Lawful, ErasureLawful, size, count, cell, block, guarded, worn}
-use Rattle.part.specs.Calls.{stands, running, hidden_by, hides, bars, peek_no, burn_no, begin_no}
+use Rattle.part.specs.Calls.{stands, hidden_by, hides, barred_by, bars, hidden_beside_by, hides_beside, barred_beside_by, bars_beside, peek_no, burn_no, begin_no}
 use Rattle.joined.specs.Pile.{raised, either, pile}
-use Rattle.joined.specs.Sides.{bars_beside, hides_beside}
 use Rattle.joined.proofs.Rows.{block_left, block_right}
 
 -- not both sides have an erasure
@@ -23,24 +22,31 @@ stands_either k None (Some e) = refl
 stands_either k (Some d) e = refl
 
 hidden_left : (k b : ℕ) (d e : Option Erasure) → (is_some d && is_some e) ≡ false → b < k
-    → hidden_by (either d (raised k e)) b ≡ (running e || hidden_by d b)
+    → hidden_by (either d (raised k e)) b ≡ (hidden_beside_by e || hidden_by d b)
 hidden_left k b None None o h = refl
 hidden_left k b None (Some e) o h = let n : nat_eq (k + e.block) b ≡ false = ne_eqb _ b (λ q. omega arith) in rw n
 hidden_left k b (Some d) None o h = refl
 hidden_left k b (Some d) (Some e) o h = absurd (true≢false o)
 
 hidden_right : (k b : ℕ) (d e : Option Erasure) → (is_some d && is_some e) ≡ false → ErasureLawful k d
-    → hidden_by (either d (raised k e)) (k + b) ≡ (running d || hidden_by e b)
+    → hidden_by (either d (raised k e)) (k + b) ≡ (hidden_beside_by d || hidden_by e b)
 hidden_right k b None None o h = refl
 hidden_right k b None (Some e) o h = let n : nat_eq (k + e.block) (k + b) ≡ nat_eq e.block b = grind (arith, nat_tests) in rw n
 hidden_right k b (Some d) None o h = let n : nat_eq d.block (k + b) ≡ false = ne_eqb _ (k + b) (λ q. omega (arith, h.0)) in rw n
 hidden_right k b (Some d) (Some e) o h = absurd (true≢false o)
 
-or_swap : (x y : Bool) → (x || y) ≡ (y || x)
-or_swap true true = refl
-or_swap true false = refl
-or_swap false true = refl
-or_swap false false = refl
+barred_left : (k b : ℕ) (d e : Option Erasure) → (is_some d && is_some e) ≡ false → barred_by (either d (raised k e)) b ≡ (barred_beside_by e || barred_by d b)
+barred_left k b None None o = refl
+barred_left k b None (Some e) o = refl
+barred_left k b (Some d) None o = refl
+barred_left k b (Some d) (Some e) o = absurd (true≢false o)
+
+barred_right : (k b : ℕ) (d e : Option Erasure) → (is_some d && is_some e) ≡ false
+    → barred_by (either d (raised k e)) (k + b) ≡ (barred_beside_by d || barred_by e b)
+barred_right k b None None o = refl
+barred_right k b None (Some e) o = refl
+barred_right k b (Some d) None o = refl
+barred_right k b (Some d) (Some e) o = absurd (true≢false o)
 
 -- What is hidden and barred in two parts end to end, by what is in each of them: the one place that goes by the text of `hides` and `bars`. An
 -- erasure of the other side hides a block only while it runs, and bars it whether it runs or not.
@@ -54,11 +60,11 @@ hides_right m n b lm o = hidden_right (count m) b m.erasure n.erasure o lm.erasu
 
 pub bars_left : (m n : Meaning) (b : ℕ) → One m n → b < count m → bars (pile m n) b ≡ (bars_beside n || bars m b)
 unfolding bars
-bars_left m n b o h = stands_either (count m) m.erasure n.erasure ∙ or_swap (stands m) (stands n)
+bars_left m n b o h = barred_left (count m) b m.erasure n.erasure o
 
 pub bars_right : (m n : Meaning) (b : ℕ) → Lawful m → One m n → bars (pile m n) (count m + b) ≡ (bars_beside m || bars n b)
 unfolding bars
-bars_right m n b lm o = stands_either (count m) m.erasure n.erasure
+bars_right m n b lm o = barred_right (count m) b m.erasure n.erasure o
 
 -- A refusal in the way, before and after another check.
 or_cond : (x y : Bool) (s t : Option Cause) → cond (x || y) s t ≡ cond x s (cond y s t)

@@ -5,15 +5,16 @@ use Rattle.std.proofs.lemmas.Bool.Decides.{nat_tests}
 use Rattle.fault.specs.declared.cause.Cause.{Cause}
 use Rattle.fault.specs.declared.cause.Cause.TheVariants.{AddressOutside, NoSuchBlock, ErasureInTheWay}
 use Rattle.part.specs.Meaning.{Meaning, Lawful, size, count}
-use Rattle.part.specs.Calls.{stands, runs, peek_no, burn_no, begin_no, BurntBy, Burnt, BegunBy, Begun, Held, gone_on, longest, run_on, passed, after_pass}
+use Rattle.part.specs.Calls.{stands, runs, hides_beside, bars_beside, peek_no, burn_no, begin_no, BurntBy, Burnt, BegunBy, Begun, Held, gone_on, longest, run_on, passed, after_pass}
 use Rattle.part.specs.Laws.{Call, look, burn, begin, hold, go_on, pass, Made}
 use Rattle.part.specs.Neighbours.{elapsed}
 use Rattle.joined.specs.declared.aim.Aim.{Aim}
 use Rattle.joined.specs.declared.aim.Aim.TheVariants.{First, Second}
 use Rattle.joined.specs.Pile.{pile, no_part, fits}
-use Rattle.joined.specs.Sides.{Sides, whole_of, Way, to_first, to_second, hides_beside, bars_beside, aimed, peek_aim, burn_aim, begin_aim, sent, turn_way, way, Went, Called}
+use Rattle.joined.specs.Sides.{Sides, whole_of, Way, to_first, to_second, aimed, peek_aim, burn_aim, begin_aim, sent, turn_way, way, Went, Called}
 use Rattle.joined.proofs.Refusing.{One, peek_left, peek_right, burn_left, burn_right, begin_left, begin_right}
-use Rattle.joined.proofs.Living.{no_time, unbarred_still, same_second, burnt_first, burnt_second, begun_clock, begun_first, begun_second, held_first, held_second, gone_first, gone_second}
+use Rattle.part.proofs.Standings.{unbarred_beside}
+use Rattle.joined.proofs.Living.{no_time, same_second, burnt_first, burnt_second, begun_clock, begun_first, begun_second, held_first, held_second, gone_first, gone_second}
 use Rattle.joined.proofs.Running.{run_clock, pass_both}
 use Rattle.joined.proofs.Fitting.{one, fits_same, fits_passed, fits_burnt_first, fits_burnt_second, fits_begun_first, fits_begun_second, fits_held_first, fits_held_second, fits_gone_first, fits_gone_second}
 
@@ -85,7 +86,7 @@ module _ (m n : Meaning) (lm : Lawful m) (ln : Lawful n) (f : fits m n ≡ true)
       (subst (λ (why : Option Cause). BurntBy (pile m n) a byte why (pile m' n')) (sym e) (pile_same m' n' w.0 w.1), fits_same m n m' n' f w.0 w.1)
   burn_sent a byte m' n' (Some First) e w = (
     subst (λ (why : Option Cause). BurntBy (pile m n) a byte why (pile m' n')) (sym e.2)
-        (burnt_first m n lm ln a byte (burn_no m a byte) m' n' e.0 (unbarred_still n e.1) w.0 w.1),
+        (burnt_first m n lm ln a byte (burn_no m a byte) m' n' e.0 (unbarred_beside n e.1) w.0 w.1),
     fits_burnt_first m n a byte m' n' (elapsed m.clock m'.clock) f w.0 w.1,
   )
   burn_sent a byte m' n' (Some (Second i)) e w = (
@@ -97,7 +98,7 @@ module _ (m n : Meaning) (lm : Lawful m) (ln : Lawful n) (f : fits m n ≡ true)
       within : i < size n → BurntBy (pile m n) a byte (burn_no n i byte) (pile m' n')
       within k =
           let inner : i ≡ a - size m = omega (arith, e.0) in
-          burnt_second m n lm ln a byte (burn_no n i byte) m' n' (omega (arith, e.0)) (unbarred_still m (e.1 k))
+          burnt_second m n lm ln a byte (burn_no n i byte) m' n' (omega (arith, e.0)) (unbarred_beside m (e.1 k))
           (subst (λ (x : ℕ). BurntBy n x byte (burn_no n i byte) n') inner w.1) w.0
 
       -- past the end of the second side nothing is burnt, whatever erasure the first has
@@ -155,7 +156,7 @@ module _ (m n : Meaning) (lm : Lawful m) (ln : Lawful n) (f : fits m n ≡ true)
 
   -- A hold, and a going on.
   second_still : stands m ≡ true → runs n ≡ false
-  second_still s = unbarred_still n (ap (λ (x : Bool). x && stands n) (sym s) ∙ lone)
+  second_still s = unbarred_beside n (ap (λ (x : Bool). x && stands n) (sym s) ∙ lone)
 
   hold_sent : (m' n' : Meaning) → Went (turn_way m hold) m n m' n' → Held (pile m n) (pile m' n') × (fits m' n' ≡ true)
   hold_sent m' n' =

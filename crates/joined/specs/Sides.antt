@@ -4,7 +4,7 @@ use Rattle.fault.specs.declared.cause.Cause.{Cause}
 use Rattle.fault.specs.declared.cause.Cause.TheVariants.{ErasureInTheWay}
 use Rattle.fault.specs.declared.faults.PartFault.{PartFault}
 use Rattle.part.specs.Meaning.{Meaning, size, count}
-use Rattle.part.specs.Calls.{stands, runs, passed, after_pass}
+use Rattle.part.specs.Calls.{stands, hides_beside, bars_beside, passed, after_pass}
 use Rattle.part.specs.Laws.{Call, look, burn, begin, hold, go_on, pass, Made}
 use Rattle.part.specs.Neighbours.{elapsed}
 use Rattle.joined.specs.declared.aim.Aim.{Aim}
@@ -27,13 +27,6 @@ pub data Way : Type 0 where
   to_first : Call → Way
   to_second : Call → Way
   both : ℕ → Way
-
--- What an erasure of one side does to the other: it bars every burn there, and hides every cell there while it runs.
-abbrev pub bars_beside : Meaning → Bool
-bars_beside m = stands m
-
-abbrev pub hides_beside : Meaning → Bool
-hides_beside m = runs m
 
 -- Which side a call goes to by its place, an address or a block: the first, or the second, where the place is counted from that side's beginning; none
 -- where an erasure of the other side is in the way. A place past the end is the second's, which refuses it.

@@ -46,7 +46,10 @@ impl<P: Part, Q: Part> Joined<P, Q> {
         let (first, second) = self
             .shapes()
             .ok_or(refused(Cause::AddressOutside, address))?;
-        let (by_first, by_second) = (first.standing.runs(), second.standing.runs());
+        let (by_first, by_second) = (
+            first.standing.hides_beside(),
+            second.standing.hides_beside(),
+        );
         Aim::at(address, first.size, second.size, by_first, by_second).ok_or(refused(
             Cause::ErasureInTheWay,
             address,
@@ -60,7 +63,7 @@ impl<P: Part, Q: Part> Joined<P, Q> {
         let (first, second) = self
             .shapes()
             .ok_or(refused(Cause::AddressOutside, address))?;
-        let (by_first, by_second) = (first.standing.stands(), second.standing.stands());
+        let (by_first, by_second) = (first.standing.bars_beside(), second.standing.bars_beside());
         Aim::at(address, first.size, second.size, by_first, by_second).ok_or(refused(
             Cause::ErasureInTheWay,
             address,

@@ -141,10 +141,11 @@ impl<P: Part, Q: Part> Part for Joined<P, Q> {
         let asked = self.shapes();
         let before = self.first.pass(n);
         let behind = self.second.pass(n);
-        match asked {
-            None => before.map(|_| Progress::Idle),
+        let (before, behind) = (before?, behind?);
+        Ok(match asked {
+            None => Progress::Idle,
             Some((first, _)) if first.standing.stands() => before,
             Some(_) => behind,
-        }
+        })
     }
 }

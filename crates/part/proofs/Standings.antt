@@ -3,22 +3,15 @@
 use Rattle.std.proofs.Common.{◌≡◌, ℕ, Bool, true, false, ◌||◌, eqb, List, Some, None, Option, is_some, refl, ap, ◌∙◌}
 use Rattle.std.proofs.lemmas.Bool.{true≢false}
 use Rattle.part.specs.Meaning.{Erasure, Meaning, guarded, with_cells, ticked, standing_of, shape_of}
-use Rattle.part.specs.Calls.{stands, running, runs, hidden_by, hides, bars, begin_no}
-use Rattle.part.specs.Standings.{stood, ran, hid, barred, shape_begin_no}
+use Rattle.part.specs.InTheWay.{bars_burns, hides_cells_beside, bars_burns_beside}
+use Rattle.part.specs.Calls.{stands, running, runs, hidden_by, hides, barred_by, bars, hidden_beside_by, hides_beside, barred_beside_by, bars_beside, begin_no}
+use Rattle.part.specs.Standings.{stood, hid, barred, hid_beside, barred_beside, shape_begin_no}
 
 stood_by : (e : Option Erasure) → stood (standing_of e) ≡ is_some e
 stood_by None = refl
 stood_by (Some e) = by_running e.block e.left e.running
   where
     by_running : (b l : ℕ) (r : Bool) → stood (standing_of (Some (record { block = b; left = l; running = r }))) ≡ true
-    by_running b l true = refl
-    by_running b l false = refl
-
-ran_by : (e : Option Erasure) → ran (standing_of e) ≡ running e
-ran_by None = refl
-ran_by (Some e) = by_running e.block e.left e.running
-  where
-    by_running : (b l : ℕ) (r : Bool) → ran (standing_of (Some (record { block = b; left = l; running = r }))) ≡ r
     by_running b l true = refl
     by_running b l false = refl
 
@@ -33,16 +26,43 @@ hid_by (Some e) b = by_running e.block e.left e.running
 pub stood_is : (m : Meaning) → stood (standing_of m.erasure) ≡ stands m
 stood_is m = stood_by m.erasure
 
-pub ran_is : (m : Meaning) → ran (standing_of m.erasure) ≡ runs m
-ran_is m = ran_by m.erasure
-
 pub hid_is : (m : Meaning) (b : ℕ) → hid (standing_of m.erasure) b ≡ hides m b
 unfolding hides
 hid_is m b = hid_by m.erasure b
 
+barred_by_is : (e : Option Erasure) (b : ℕ) → barred (standing_of e) b ≡ barred_by e b
+barred_by_is None b = refl
+barred_by_is (Some e) b = by_running e.block e.left e.running
+  where
+    by_running : (own l : ℕ) (r : Bool) → barred (standing_of (Some (record { block = own; left = l; running = r }))) b ≡ bars_burns r own b
+    by_running own l true = refl
+    by_running own l false = refl
+
 pub barred_is : (m : Meaning) (b : ℕ) → barred (standing_of m.erasure) b ≡ bars m b
 unfolding bars
-barred_is m b = stood_by m.erasure
+barred_is m b = barred_by_is m.erasure b
+
+hid_beside_by : (e : Option Erasure) → hid_beside (standing_of e) ≡ hidden_beside_by e
+hid_beside_by None = refl
+hid_beside_by (Some e) = by_running e.block e.left e.running
+  where
+    by_running : (b l : ℕ) (r : Bool) → hid_beside (standing_of (Some (record { block = b; left = l; running = r }))) ≡ hides_cells_beside r
+    by_running b l true = refl
+    by_running b l false = refl
+
+pub hid_beside_is : (m : Meaning) → hid_beside (standing_of m.erasure) ≡ hides_beside m
+hid_beside_is m = hid_beside_by m.erasure
+
+barred_beside_by_is : (e : Option Erasure) → barred_beside (standing_of e) ≡ barred_beside_by e
+barred_beside_by_is None = refl
+barred_beside_by_is (Some e) = by_running e.block e.left e.running
+  where
+    by_running : (b l : ℕ) (r : Bool) → barred_beside (standing_of (Some (record { block = b; left = l; running = r }))) ≡ bars_burns_beside r
+    by_running b l true = refl
+    by_running b l false = refl
+
+pub barred_beside_is : (m : Meaning) → barred_beside (standing_of m.erasure) ≡ bars_beside m
+barred_beside_is m = barred_beside_by_is m.erasure
 
 pub begin_no_is : (m : Meaning) (b : ℕ) → shape_begin_no (shape_of m) b (guarded m b) ≡ begin_no m b
 begin_no_is m b = rw (stood_is m)
@@ -57,40 +77,30 @@ pub hides_none : (m : Meaning) (b : ℕ) → stands m ≡ false → hides m b �
 unfolding hides
 hides_none m b h = none_hidden m.erasure b h
 
+none_barred : (e : Option Erasure) (b : ℕ) → is_some e ≡ false → barred_by e b ≡ false
+none_barred None b h = refl
+none_barred (Some e) b h = absurd (true≢false h)
+
 pub bars_none : (m : Meaning) (b : ℕ) → stands m ≡ false → bars m b ≡ false
 unfolding bars
-bars_none m b h = h
+bars_none m b h = none_barred m.erasure b h
 
 pub hides_still : (m : Meaning) (e : Erasure) (b : ℕ) → m.erasure ≡ Some e → e.running ≡ false → hides m b ≡ eqb e.block b
 unfolding hides
 hides_still m e b d r = ap (λ (o : Option Erasure). hidden_by o b) d ∙ ap (λ (t : Bool). t || eqb e.block b) r
 
--- two parts with one erasure hide and bar alike
-pub hides_same : (m n : Meaning) (b : ℕ) → n.erasure ≡ m.erasure → hides n b ≡ hides m b
-unfolding hides
-hides_same m n b e = ap (λ (o : Option Erasure). hidden_by o b) e
-
-pub bars_same : (m n : Meaning) (b : ℕ) → n.erasure ≡ m.erasure → bars n b ≡ bars m b
-unfolding bars
-bars_same m n b e = ap is_some e
-
--- other cells, or another reading of the clock, change neither
-pub hides_cells : (m : Meaning) (cells : List ℕ) (b : ℕ) → hides (with_cells m cells) b ≡ hides m b
-unfolding hides
-hides_cells m cells b = refl
-
-pub hides_ticked : (m : Meaning) (n b : ℕ) → hides (ticked m n) b ≡ hides m b
-unfolding hides
-hides_ticked m n b = refl
-
-pub bars_cells : (m : Meaning) (cells : List ℕ) (b : ℕ) → bars (with_cells m cells) b ≡ bars m b
-unfolding bars
-bars_cells m cells b = refl
-
-pub bars_ticked : (m : Meaning) (n b : ℕ) → bars (ticked m n) b ≡ bars m b
-unfolding bars
-bars_ticked m n b = refl
+barred_none : (e : Option Erasure) (b : ℕ) → barred_by e b ≡ false → is_some e ≡ false
+barred_none None b h = refl
+barred_none (Some e) b h = absurd (true≢false h)
 
 pub unbarred : (m : Meaning) (b : ℕ) → bars m b ≡ false → stands m ≡ false
 unfolding bars
-unbarred m b h = h
+unbarred m b h = barred_none m.erasure b h
+
+-- Where an erasure does not bar a neighbour's cells it does not hide them either, and it does not run.
+still_beside : (e : Option Erasure) → barred_beside_by e ≡ false → running e ≡ false
+still_beside None h = refl
+still_beside (Some e) h = absurd (true≢false h)
+
+pub unbarred_beside : (m : Meaning) → bars_beside m ≡ false → runs m ≡ false
+unbarred_beside m h = still_beside m.erasure h

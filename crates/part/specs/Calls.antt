@@ -13,6 +13,7 @@ use Rattle.part.specs.declared.answers.Progress.{Progress}
 use Rattle.part.specs.declared.answers.Progress.TheVariants.{Idle, Running, Suspended, Finished, Worn as Spoilt}
 use Rattle.part.specs.declared.answers.Turn.{Turn}
 use Rattle.part.specs.declared.answers.Turn.TheVariants.{Done, Nothing}
+use Rattle.part.specs.InTheWay.{hides_cells, bars_burns, hides_cells_beside, bars_burns_beside}
 use Rattle.part.specs.Meaning.{Erasure, Meaning, size, count, cell, block, guarded, worn, with_cells, with_erasure, ticked}
 
 -- Refusals. Each call has one function that says why it is refused, or that it is not; the checks run in rising number.
@@ -34,19 +35,38 @@ running (Some e) = e.running
 abbrev pub runs : Meaning → Bool
 runs m = running m.erasure
 
--- The two questions that an erasure raises about a block. Each is answered here alone; what follows from an answer stands in laws about these names.
+-- The questions that an erasure raises about a block. What follows from an answer stands in laws about these names.
 
--- No cell of block b can be peeked now: an erasure that runs hides every block, and one that is suspended its own.
+-- no cell of block b can be peeked now
 abbrev pub hidden_by : Option Erasure → ℕ → Bool
 hidden_by None b = false
-hidden_by (Some e) b = e.running || e.block == b
+hidden_by (Some e) b = hides_cells e.running e.block b
 
 unfoldable pub hides : Meaning → ℕ → Bool
 hides m b = hidden_by m.erasure b
 
--- No cell of block b can be burnt now: an erasure bars every block, whether it runs or is suspended.
+-- no cell of block b can be burnt now
+abbrev pub barred_by : Option Erasure → ℕ → Bool
+barred_by None b = false
+barred_by (Some e) b = bars_burns e.running e.block b
+
 unfoldable pub bars : Meaning → ℕ → Bool
-bars m b = stands m
+bars m b = barred_by m.erasure b
+
+-- no cell of a neighbour can be peeked, or burnt, now
+abbrev pub hidden_beside_by : Option Erasure → Bool
+hidden_beside_by None = false
+hidden_beside_by (Some e) = hides_cells_beside e.running
+
+abbrev pub hides_beside : Meaning → Bool
+hides_beside m = hidden_beside_by m.erasure
+
+abbrev pub barred_beside_by : Option Erasure → Bool
+barred_beside_by None = false
+barred_beside_by (Some e) = bars_burns_beside e.running
+
+abbrev pub bars_beside : Meaning → Bool
+bars_beside m = barred_beside_by m.erasure
 
 abbrev pub outside : Meaning → ℕ → Bool
 outside m a = nat_le (size m) a

@@ -1,4 +1,5 @@
 pub mod Calls
+pub mod InTheWay
 pub mod Laws
 pub mod Meaning
 pub mod Neighbours

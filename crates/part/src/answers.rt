@@ -1,6 +1,6 @@
 // What the calls of a part answer.
 ghost use Rattle.std.specs.Prelude.{◌≡◌, Some};
-ghost use Rattle.part.specs.Standings.{stood, ran, hid, barred, burn_why, shape_begin_no};
+ghost use Rattle.part.specs.Standings.{stood, ran, hid, barred, hid_beside, barred_beside, burn_why, shape_begin_no};
 ghost use Rattle.part.specs.Words.{progress_text};
 
 use fault::{Cause, needs_erase};
@@ -79,6 +79,20 @@ impl Standing {
     /// Whether no cell of a block can be burnt: an erasure bars every block, whether it runs or is suspended.
     pub fn bars(self, _block: u32) -> bool
         ensures { result ≡ barred self _block }
+    {
+        self != Standing::Idle
+    }
+
+    /// Whether the cells of a neighbour are hidden, as those of the other side of a joined part: while an erasure runs.
+    pub fn hides_beside(self) -> bool
+        ensures { result ≡ hid_beside self }
+    {
+        self.runs()
+    }
+
+    /// Whether no cell of a neighbour can be burnt: while an erasure stands.
+    pub fn bars_beside(self) -> bool
+        ensures { result ≡ barred_beside self }
     {
         self.stands()
     }

@@ -142,7 +142,7 @@ module _ (f : Flash) where
         unlocks = λ b l is e. to _ (by_byte s a byte 0xAA _ is.1 (step s Start a 0xAA c.first (Next Second) e (at_first a is.0) (rw (same c.first) refl)));
         has_unlocked = λ b l is e. to _ (by_byte s a byte 0x55 _ is.1 (step s Second a 0x55 c.second (Next Command) e (at_second a is.0) (rw (same c.second) refl)));
         identifies = λ b l is e. to _ (by_byte s a byte 0x90 _ is.1 (step s Command a 0x90 c.first (Enter Id) e (at_first a is.0) (rw (same c.first) refl)));
-        back = λ zone is e. to _ (by_byte s a byte 0xF0 _ is (ap (λ (x : State). doing_of f (heeded f x a 0xF0)) (names_is f s zone e)));
+        back = λ zone here is e. to _ (by_byte s a byte 0xF0 _ is (ap (λ (x : State). doing_of f (heeded f x a 0xF0)) (names_is f s zone e)));
         sets_up = λ b l is e. to _ (by_byte s a byte 0xA0 _ is.1 (step s Command a 0xA0 c.first (Next Data) e (at_first a is.0) (rw (same c.first) refl)));
         programs = λ k e.
             to _ (step s Data a byte (low_bits c a) Program e refl refl
@@ -159,7 +159,7 @@ module _ (f : Flash) where
         resumes = λ j at is e.
             let k = holds_is f s j start e in
             to _ (by_byte s a byte 0x30 _ is (ap (λ (x : State). doing_of f (heeded f x a 0x30)) k.1 ∙ ap (with_job erasing) k.2));
-        mends = λ zone wanted toggle o is e.
+        mends = λ zone wanted toggle o here is e.
             let k = fails_is f s zone wanted toggle o e in
             to _ (by_byte s a byte 0xF0 _ is (ap (λ (x : State). doing_of f (heeded f x a 0xF0)) k.0 ∙ ap (λ (x : Option Job). resting x start) (sym k.1)));
       }

@@ -69,7 +69,7 @@ addressed kind b l =
     record {
       first = p.first;
       second = p.second;
-      guard = p.guard.0;
+      guard = p.guard;
       start = (
         ap (λ (a : ℕ). inside (sheet_of kind) a) (sym (start_is kind b l)) ∙ p.start.0,
         ap (λ (a : ℕ). block_of (plan_of kind).sizes a) (sym (start_is kind b l)) ∙ p.start.1,

@@ -8,7 +8,7 @@ ghost use Rattle.tc58.specs.Rigs.{rig_of};
 use crate::seated::Seated;
 use crate::wires::Wires;
 use chip::Chip;
-use driver::{Driven, Seat};
+use driver::{Driven, Rigged, Seat};
 use part::Part;
 
 /// A chip of this family under its driver.
@@ -28,7 +28,7 @@ impl Seated {
 
 /// Takes a chip: resets it, and reads its guards in ID mode.
 pub fn driven(chip: Chip) -> DrivenChip
-    ensures chip { ⟦<Seated as Seat>⟧.rig result.seat ≡ rig_of (after_reset (view chip)) }
+    ensures chip { ⟦<DrivenChip as Rigged>⟧.rig result ≡ rig_of (after_reset (view chip)) }
     ensures part { ⟦<DrivenChip as Part>⟧.means result ≡ meaning (rig_of (after_reset (view chip))) }
 {
     Driven::new(Seated::new(chip))

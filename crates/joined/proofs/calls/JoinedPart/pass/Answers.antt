@@ -1,4 +1,4 @@
-use Rattle.std.proofs.Common.{refl, rules}
+use Rattle.std.proofs.Common.{sym, ◌∙◌, refl, rules}
 use Rattle.part.specs.Laws.{pass}
 use Rattle.joined.proofs.Whole.{Sound, kept}
 use Rattle.joined.proofs.Aiming.{pass_second}
@@ -49,4 +49,4 @@ returns-in-Some-2-clause-answer g c =
     let n = g.Q.Part.means s.second.part in
     let v : Sound (record { live = s.live; first = m; second = n }) =
     record { first = g.met.P.Part.lawful s.first.part; second = g.met.Q.Part.lawful s.second.part; fit = s.fit } in
-    pass_second s.live m n v c.args.n c.in-Some.first c.pass-behind.result (search rules) (search rules) (search rules) c.pass-behind.ensures.answer
+    sym c.in_ok-behind.was ∙ pass_second s.live m n v c.args.n c.in-Some.first c.pass-behind.result (search rules) (search rules) (search rules) c.pass-behind.ensures.answer
