@@ -7,7 +7,7 @@ use Rattle.fault.specs.Causes.{number_of}
 use Rattle.part.specs.Meaning.{Erasure, Meaning, size, count, with_cells, with_erasure}
 use Rattle.part.specs.declared.answers.Turn.{Turn}
 use Rattle.part.specs.declared.answers.Turn.TheVariants.{Done, Nothing}
-use Rattle.part.specs.Calls.{stands, Took, Refused, burn_no, BurntBy, Burnt, BegunBy, HeldBy, Held, can_hold, turned, gone_on, longest, run_on, passed, after_pass}
+use Rattle.part.specs.Calls.{longest_burn, longest_hold, stands, Took, Refused, burn_no, BurntBy, Burnt, BegunBy, HeldBy, Held, can_hold, turned, gone_on, longest, run_on, passed, after_pass}
 use Rattle.joined.specs.Pile.{most_bytes, most_blocks, fits}
 use Rattle.joined.proofs.Refusing.{One}
 use Rattle.joined.proofs.Running.{size_run, count_run}
@@ -54,11 +54,11 @@ still_took least most m x n s t = record {
 
 still_burnt : (m : Meaning) (a byte : ℕ) (why : Option Cause) (n : Meaning) → BurntBy m a byte why n → Still m n
 still_burnt m a byte None n t =
-    still_took 1 300 m (with_cells m (set m.cells a byte)) n (record { size = length-set m.cells a byte; count = refl; idle = λ i. i }) t
+    still_took 1 longest_burn m (with_cells m (set m.cells a byte)) n (record { size = length-set m.cells a byte; count = refl; idle = λ i. i }) t
 still_burnt m a byte (Some cause) n t = refused (eqb (number_of cause) 8) t
   where
     refused : (b : Bool) → Refused b m n → Still m n
-    refused true t = still_took 0 300 m m n (still_same m m refl) t
+    refused true t = still_took 0 longest_burn m m n (still_same m m refl) t
     refused false t = still_same m n t
 
 idle_run : (m : Meaning) (k : ℕ) (e : Option Erasure) → is_some e ≡ false → stands m ≡ false → stands (run_on m k e) ≡ false
@@ -87,7 +87,7 @@ still_turned r m n e = record {
 }
 
 still_held : (m : Meaning) (t : Turn) (n : Meaning) → HeldBy m t n → Still m n
-still_held m Done n w = still_took 0 15 m (with_erasure m (turned false m.erasure)) n (still_turned false m _ refl) w
+still_held m Done n w = still_took 0 longest_hold m (with_erasure m (turned false m.erasure)) n (still_turned false m _ refl) w
 still_held m Nothing n w = still_same m n w
 
 -- A call on one side, other than the beginning of an erasure, or a pass on both.

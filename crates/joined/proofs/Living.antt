@@ -7,7 +7,7 @@ use Rattle.fault.specs.Causes.{number_of}
 use Rattle.part.specs.Meaning.{Erasure, Meaning, Lawful, ErasureLawful, size, count, with_cells, with_erasure, ticked}
 use Rattle.part.specs.declared.answers.Turn.{Turn}
 use Rattle.part.specs.declared.answers.Turn.TheVariants.{Done, Nothing}
-use Rattle.part.specs.Calls.{stands, running, runs, Took, Refused, BurntBy, BegunBy, HeldBy, Held, can_hold, turned, gone_on, run_on, passed}
+use Rattle.part.specs.Calls.{longest_burn, longest_hold, stands, running, runs, Took, Refused, BurntBy, BegunBy, HeldBy, Held, can_hold, turned, gone_on, run_on, passed}
 use Rattle.part.specs.Neighbours.{elapsed}
 use Rattle.joined.specs.Pile.{raised, either, pile}
 
@@ -32,7 +32,7 @@ idle_still None h = refl
 idle_still (Some e) h = absurd (true≢false h)
 
 -- The time that one side's clock shows is the time that it took.
-beside : (c d t : ℕ) (n n' : Meaning) → runs n ≡ false → c < 4294967296 → d ≡ (c + t) % 4294967296 → t ≤ 300
+beside : (c d t : ℕ) (n n' : Meaning) → runs n ≡ false → c < 4294967296 → d ≡ (c + t) % 4294967296 → t < 4294967296
     → n' ≡ passed n (elapsed c d) → n' ≡ ticked n t
 beside c d t n n' i l e h q =
     let s : elapsed c d ≡ t = omega arith in
@@ -71,7 +71,7 @@ none_passed x n lx ln d e =
 
 module _ (m n : Meaning) (lm : Lawful m) (ln : Lawful n) where
   -- Time on the first side, and the same time on the second; and the other way round.
-  took_first : (x : Meaning) (least most : ℕ) (m' n' : Meaning) → x.clock ≡ m.clock → most ≤ 300 → runs n ≡ false
+  took_first : (x : Meaning) (least most : ℕ) (m' n' : Meaning) → x.clock ≡ m.clock → most < 4294967296 → runs n ≡ false
       → Took least most x m' → n' ≡ passed n (elapsed m.clock m'.clock) → Took least most (pile x n) (pile m' n')
   took_first x least most m' n' k h i w q =
       let t = w.time in
@@ -79,7 +79,7 @@ module _ (m n : Meaning) (lm : Lawful m) (ln : Lawful n) where
       let y : n' ≡ ticked n t = beside m.clock m'.clock t n n' i lm.clock d (omega (arith, w.high)) q in
       record { time = t; low = w.low; high = w.high; is = ap (λ (z : Meaning). pile z n') w.is ∙ ap (pile (ticked x t)) y }
 
-  took_second : (y : Meaning) (least most : ℕ) (m' n' : Meaning) → y.clock ≡ n.clock → most ≤ 300 → runs m ≡ false
+  took_second : (y : Meaning) (least most : ℕ) (m' n' : Meaning) → y.clock ≡ n.clock → most < 4294967296 → runs m ≡ false
       → Took least most y n' → m' ≡ passed m (elapsed n.clock n'.clock) → Took least most (pile m y) (pile m' n')
   took_second y least most m' n' k h i w q =
       let t = w.time in
@@ -102,25 +102,25 @@ module _ (m n : Meaning) (lm : Lawful m) (ln : Lawful n) where
   pub burnt_first : (a byte : ℕ) (why : Option Cause) (m' n' : Meaning) → a < size m → runs n ≡ false
       → BurntBy m a byte why m' → n' ≡ passed n (elapsed m.clock m'.clock) → BurntBy (pile m n) a byte why (pile m' n')
   burnt_first a byte None m' n' h i w q =
-      subst (λ (cs : List ℕ). Took 1 300 (with_cells (pile m n) cs) (pile m' n'))
+      subst (λ (cs : List ℕ). Took 1 longest_burn (with_cells (pile m n) cs) (pile m' n'))
       (sym (set-append_left m.cells n.cells a byte h))
-      (took_first (with_cells m (set m.cells a byte)) 1 300 m' n' refl (omega arith) i w q)
+      (took_first (with_cells m (set m.cells a byte)) 1 longest_burn m' n' refl (omega arith) i w q)
   burnt_first a byte (Some cause) m' n' h i w q = refused (eqb (number_of cause) 8) w
     where
       refused : (b : Bool) → Refused b m m' → Refused b (pile m n) (pile m' n')
-      refused true w = took_first m 0 300 m' n' refl (omega arith) i w q
+      refused true w = took_first m 0 longest_burn m' n' refl (omega arith) i w q
       refused false w = same_first m' n' w q
 
   pub burnt_second : (a byte : ℕ) (why : Option Cause) (m' n' : Meaning) → size m ≤ a → runs m ≡ false
       → BurntBy n (a - size m) byte why n' → m' ≡ passed m (elapsed n.clock n'.clock) → BurntBy (pile m n) a byte why (pile m' n')
   burnt_second a byte None m' n' h i w q =
-      subst (λ (cs : List ℕ). Took 1 300 (with_cells (pile m n) cs) (pile m' n'))
+      subst (λ (cs : List ℕ). Took 1 longest_burn (with_cells (pile m n) cs) (pile m' n'))
       (sym (set-append_right m.cells n.cells (size m) a byte refl h))
-      (took_second (with_cells n (set n.cells (a - size m) byte)) 1 300 m' n' refl (omega arith) i w q)
+      (took_second (with_cells n (set n.cells (a - size m) byte)) 1 longest_burn m' n' refl (omega arith) i w q)
   burnt_second a byte (Some cause) m' n' h i w q = refused (eqb (number_of cause) 8) w
     where
       refused : (b : Bool) → Refused b n n' → Refused b (pile m n) (pile m' n')
-      refused true w = took_second n 0 300 m' n' refl (omega arith) i w q
+      refused true w = took_second n 0 longest_burn m' n' refl (omega arith) i w q
       refused false w = same_second m' n' w q
 
   -- So is the beginning of an erasure, which takes no time.
@@ -188,9 +188,9 @@ module _ (m n : Meaning) (lm : Lawful m) (ln : Lawful n) where
     where
       by : (t : Turn) → HeldBy m t m' → HeldBy (pile m n) t (pile m' n')
       by Done w =
-          subst (λ (o : Option Erasure). Took 0 15 (with_erasure (pile m n) o) (pile m' n'))
+          subst (λ (o : Option Erasure). Took 0 longest_hold (with_erasure (pile m n) o) (pile m' n'))
           (turned_first false m.erasure (raised (count m) n.erasure) s)
-          (took_first (with_erasure m (turned false m.erasure)) 0 15 m' n' refl (omega arith) i w q)
+          (took_first (with_erasure m (turned false m.erasure)) 0 longest_hold m' n' refl (omega arith) i w q)
       by Nothing w = same_first m' n' w q
 
   pub held_second : (m' n' : Meaning) → stands m ≡ false → Held n n' → m' ≡ passed m (elapsed n.clock n'.clock) → Held (pile m n) (pile m' n')
@@ -200,9 +200,9 @@ module _ (m n : Meaning) (lm : Lawful m) (ln : Lawful n) where
     where
       by : (t : Turn) → HeldBy n t n' → HeldBy (pile m n) t (pile m' n')
       by Done w =
-          subst (λ (o : Option Erasure). Took 0 15 (with_erasure (pile m n) o) (pile m' n'))
+          subst (λ (o : Option Erasure). Took 0 longest_hold (with_erasure (pile m n) o) (pile m' n'))
           (turned_second false i)
-          (took_second (with_erasure n (turned false n.erasure)) 0 15 m' n' refl (omega arith) (idle_still m.erasure i) w q)
+          (took_second (with_erasure n (turned false n.erasure)) 0 longest_hold m' n' refl (omega arith) (idle_still m.erasure i) w q)
       by Nothing w = same_second m' n' w q
 
   pub gone_first : (m' n' : Meaning) → stands m ≡ true → m' ≡ gone_on m → n' ≡ passed n (elapsed m.clock m'.clock) → pile m' n' ≡ gone_on (pile m n)
