@@ -1,3 +1,4 @@
+pub mod AsTheSheetsSay
 pub mod Bitwise
 pub mod Placing
 pub mod Filling

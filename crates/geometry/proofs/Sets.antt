@@ -5,13 +5,13 @@ use lib.Bits.{bit_and}
 use lib.Count.{ones}
 use Rattle.std.proofs.Math.Pow.{pow-lt}
 use Rattle.std.proofs.Math.Bool.{and-true}
-use Rattle.std.proofs.lemmas.Bool.{and_parts, eqb-true, cases_lt, false≢true, lt-ltb, le-ltb, ltb-true, ltb-false}
+use Rattle.std.proofs.lemmas.Bool.{cases_lt, false≢true, lt-ltb, le-ltb, ltb-true, ltb-false}
 use Rattle.std.proofs.lemmas.Nat.{zero_from_ones, and_le_l}
-use Rattle.std.proofs.lemmas.Nat.Bits.{bit_at-lt, bit_at_and, bit_at_or, bit_at_xor, bit_at_ones, bit_at_ones_above, bit_at-zero, same_from_bits}
+use Rattle.std.proofs.lemmas.Nat.Bits.{bit_at-lt, bit_at_and, bit_at_or, bit_at_xor, bit_at-zero, same_from_bits}
 use Rattle.std.proofs.lemmas.Bool.Decides.{nat_tests}
 use Rattle.geometry.specs.declared.set.BlockSet.{BlockSet}
-use Rattle.geometry.specs.Sets.{bit, has, none, only, first, count_of, union, without, meets, is_within}
-use Rattle.geometry.proofs.Bitwise.{bit_of_and, bit_one, ones_one}
+use Rattle.geometry.specs.Sets.{bit, has, none, only, count_of, union, without, meets}
+use Rattle.geometry.proofs.Bitwise.{bit_of_and, bit_one}
 
 -- what a shift of 1 computes
 pub shifted_one : (b : ℕ) → b < 128 → 1 * 2 ^ b % 2 ^ 128 ≡ 2 ^ b
@@ -31,15 +31,6 @@ has_only b c = elim (cases_lt b 128) [
     no : (t : Bool) → false ≡ (t && false)
     no true = refl
     no false = refl
-
-pub has_first : (n b : ℕ) → has (first n) b ≡ (ltb b n && ltb b 128)
-has_first n b = elim (cases_lt b (min n 128)) [
-  | inl l ↦
-      let p : b < n = omega arith in
-      let q : b < 128 = omega arith in
-      rw (bit_at_ones (min n 128) b l, lt-ltb b n p, lt-ltb b 128 q)
-  | inr g ↦ rw (bit_at_ones_above (min n 128) b g) (grind (arith, nat_tests))
-]
 
 pub has_union : (set other : BlockSet) (b : ℕ) → has (union set other) b ≡ (has set b || has other b)
 has_union set other b =
@@ -68,16 +59,6 @@ apart set other b n t =
     by : (x : Bool) → (x && true) ≡ false → x ≡ false
     by true e = e
     by false e = refl
-
--- Each block of a set that is within another is in the other.
-pub inside_too : (set other : BlockSet) (b : ℕ) → is_within set other ≡ true → has set b ≡ true → has other b ≡ true
-inside_too set other b w t =
-    let e : (has set b && has other b) ≡ has set b = sym (bit_of_and set.mask other.mask b) ∙ ap (λ (x : ℕ). bit x b) (eqb-true _ _ w) in
-    (and_parts (has set b) (has other b) (e ∙ t)).1
-
--- One block alone is one block.
-pub count_only : (b : ℕ) → b < 128 → count_of (only b) ≡ 1
-count_only b h = rw (lt-ltb b 128 h) (ones_one b)
 
 -- A set that has a block is not empty.
 pub count_positive : (set : BlockSet) (b : ℕ) → has set b ≡ true → 0 < count_of set

@@ -1,4 +1,5 @@
 pub mod Blocks
+pub mod DataSheets
 pub mod Plans
 pub mod RowSizes
 pub mod Rows

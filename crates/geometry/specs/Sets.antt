@@ -1,6 +1,10 @@
--- Sets of blocks: block b is in a set where bit b of the set's mask is 1. A set has room for blocks 0 to 127.
+-- Sets of blocks: block b is in a set where bit b of the set's mask is 1.
 use Rattle.std.specs.Prelude.{ℕ, ◌-◌, ◌/◌, ◌%◌, ◌^◌, min, Bool, if◌then◌else◌, ◌==◌, nat_lt, bit_and, bit_or, bit_xor, count_ones}
 use Rattle.geometry.specs.declared.set.BlockSet.{BlockSet}
+
+-- how many blocks a set has room for: blocks 0 to 127
+abbrev pub largest_set : ℕ
+largest_set = 128
 
 -- bit b of a number is 1
 abbrev pub bit : ℕ → ℕ → Bool
@@ -14,13 +18,13 @@ has set b = bit set.mask b
 abbrev pub none : BlockSet
 none = record { mask = 0 }
 
--- block b alone; no block, where b is past 127
+-- block b alone; no block, where there is no room for b
 abbrev pub only : ℕ → BlockSet
-only b = record { mask = (if nat_lt b 128 then 2 ^ b else 0) }
+only b = record { mask = (if nat_lt b largest_set then 2 ^ b else 0) }
 
 -- blocks 0 to n - 1, as far as there is room
 abbrev pub first : ℕ → BlockSet
-first n = record { mask = 2 ^ min n 128 - 1 }
+first n = record { mask = 2 ^ min n largest_set - 1 }
 
 -- how many blocks a set has
 abbrev pub count_of : BlockSet → ℕ

@@ -2,8 +2,10 @@
 // A number and no enum: it is a rule of the project, and every number that a caller can write down has a meaning here.
 ghost use Rattle.std.specs.Prelude.{◌≡◌, ℕ, ◌≤◌, length};
 ghost use Rattle.geometry.specs.Blocks.{block_of};
+ghost use Rattle.geometry.specs.DataSheets.{AsTheSheetsSay};
 ghost use Rattle.geometry.specs.Plans.{plan_of, sheet_of, is_chip, blocks_of, IsTable, block_at, LaidOut};
 ghost use Rattle.geometry.specs.RowSizes.{sizes};
+ghost use Rattle.geometry.specs.Sets.{largest_set};
 
 use crate::block::Block;
 use crate::datasheet::Sheet;
@@ -55,11 +57,12 @@ pub fn sheet(kind: u8) -> Sheet
 }
 
 /// How many blocks the chip has.
-#[tactic(auto, using(crate::proofs::Placing::every_few, crate::proofs::Placing::every_laid_out))]
+#[tactic(auto, using(crate::proofs::Placing::every_few, crate::proofs::Placing::every_laid_out, crate::proofs::AsTheSheetsSay::as_the_sheets_say))]
 pub fn count(kind: u8) -> usize
     ensures value { result ≡ length (plan_of kind).sizes }
-    ensures bound { result ≤ 128 }
+    ensures bound { result ≤ largest_set }
     ensures law { (kind : ℕ) → LaidOut (plan_of kind) }
+    ensures sheets { AsTheSheetsSay }
 {
     by_kind!(kind, count())
 }
@@ -95,7 +98,7 @@ pub fn nth_block(kind: u8, number: usize) -> Option<Block>
 /// The block that an address lies in; past the last block, the number of blocks.
 pub fn block_at(kind: u8, address: u32) -> usize
     ensures value { result ≡ block_of (plan_of kind).sizes address }
-    ensures bound { result ≤ 128 }
+    ensures bound { result ≤ largest_set }
 {
     by_kind!(kind, block_at(address))
 }

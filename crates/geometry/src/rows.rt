@@ -5,6 +5,7 @@ ghost use Rattle.geometry.specs.Rows.{Unbroken};
 
 use crate::block::Block;
 use crate::set::BlockSet;
+use crate::tables::Geometry;
 
 // The first of the blocks that holds an address.
 fn holder(blocks: &[Block], address: u32) -> Option<usize>
@@ -16,7 +17,7 @@ fn holder(blocks: &[Block], address: u32) -> Option<usize>
 /// The blocks of a chip in a row: the first begins at address 0, and each other one where the one before it ends.
 #[derive(Clone, Copy)]
 pub struct Row {
-    pub(crate) blocks: &'static [Block],
+    blocks: &'static [Block],
     ghost unbroken: { Unbroken blocks.now },
 }
 
@@ -24,6 +25,14 @@ impl Row {
     ghost use Rattle.geometry.specs.Blocks.{block_of, filled};
     ghost use Rattle.geometry.specs.Sets.{has};
     ghost use Rattle.geometry.specs.RowSizes.{sizes};
+
+    /// The blocks of a geometry, also of one that another crate brings.
+    #[tactic(auto, using(crate::proofs::Placing::unbroken))]
+    pub fn of<G: Geometry>() -> Row
+        ensures { sizes result ≡ G.Geometry.plan.sizes }
+    {
+        Row { blocks: G::table() }
+    }
 
     /// How many blocks there are.
     #[tactic(auto, using(crate::proofs::Placing::table_long))]

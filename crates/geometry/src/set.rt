@@ -1,6 +1,6 @@
 // Sets of blocks, which every chip, command and law speaks of.
 ghost use Rattle.std.specs.Prelude.{◌≡◌, ◌≤◌, count_ones};
-ghost use Rattle.geometry.specs.Sets.{bit, has, none, only, first, count_of, union, without, meets, is_within};
+ghost use Rattle.geometry.specs.Sets.{largest_set, bit, has, none, only, first, count_of, union, without, meets, is_within};
 
 /// How many blocks a set can hold: blocks 0 to 127.
 pub const LARGEST_SET: usize = 128;
@@ -21,7 +21,7 @@ fn is_set(mask: u128, place: usize) -> bool
 // How many bits of a mask are 1.
 fn ones(mask: u128) -> u32
     ensures value { result ≡ count_ones mask }
-    ensures bound { result ≤ 128 }
+    ensures bound { result ≤ largest_set }
 {
     mask.count_ones()
 }
@@ -42,7 +42,7 @@ impl BlockSet {
         }
     }
 
-    /// Blocks 0 to `count` - 1; all 128, where `count` is larger.
+    /// Blocks 0 to `count` - 1; all that a set has room for, where `count` is larger.
     #[tactic(auto, using(crate::proofs::Sets::shifted_one))]
     pub fn first(count: usize) -> BlockSet
         ensures { result ≡ first count }
@@ -66,7 +66,7 @@ impl BlockSet {
     /// How many blocks the set has.
     pub fn count(self) -> u32
         ensures value { result ≡ count_of self }
-        ensures bound { result ≤ 128 }
+        ensures bound { result ≤ largest_set }
     {
         ones(self.mask)
     }

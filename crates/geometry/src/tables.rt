@@ -1,6 +1,7 @@
 // The chips: for each what its data sheet says, with the table of its blocks. The definitions in specs/ are built from these very constants.
 ghost use Rattle.std.specs.Prelude.{◌≡◌, ℕ, ◌≤◌, length};
 ghost use Rattle.geometry.specs.Plans.{Plan, top, bottom, bench, dead, sheet_of, IsTable, Contiguous};
+ghost use Rattle.geometry.specs.Sets.{largest_set};
 ghost use Rattle.std.proofs.Common.{rules};
 
 use crate::block::Block;
@@ -45,7 +46,7 @@ pub trait Geometry {
     ghost contiguous: { Contiguous plan };
 
     // A set of blocks has room for all of them.
-    ghost few: { length plan.sizes ≤ 128 };
+    ghost few: { length plan.sizes ≤ largest_set };
 }
 
 // What the three chips share: the maker, where they take commands, and how an address chooses in ID mode.

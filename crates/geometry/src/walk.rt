@@ -49,18 +49,17 @@ pub(crate) fn nth_block<G: Geometry>(number: usize) -> Option<Block>
 }
 
 // The blocks as a row.
-#[tactic(auto, using(crate::proofs::Placing::unbroken))]
 pub(crate) fn row<G: Geometry>() -> Row
     ensures { sizes result ≡ G.Geometry.plan.sizes }
 {
-    Row { blocks: G::table() }
+    Row::of::<G>()
 }
 
 // The block that an address lies in; past the last block, the number of blocks.
 pub(crate) fn block_at<G: Geometry>(address: u32) -> usize
     ensures { result ≡ block_of G.Geometry.plan.sizes address }
 {
-    row::<G>().block_at(address)
+    Row::of::<G>().block_at(address)
 }
 
 /// The cell at an address; 0 where there is none.
