@@ -3,7 +3,7 @@
 use Rattle.std.proofs.Common.{◌≡◌, ℕ, Bool, true, false, ◌||◌, eqb, List, Some, None, Option, is_some, refl, ap, ◌∙◌}
 use Rattle.std.proofs.lemmas.Bool.{true≢false}
 use Rattle.part.specs.Meaning.{Erasure, Meaning, guarded, with_cells, ticked, standing_of, shape_of}
-use Rattle.part.specs.InTheWay.{bars_burns, hides_cells_beside, bars_burns_beside}
+use Rattle.part.specs.InTheWay.{burn_barred, peek_hidden_beside, burn_barred_beside}
 use Rattle.part.specs.Calls.{stands, running, runs, hidden_by, hides, barred_by, bars, hidden_beside_by, hides_beside, barred_beside_by, bars_beside, begin_no}
 use Rattle.part.specs.Standings.{stood, hid, barred, hid_beside, barred_beside, shape_begin_no}
 
@@ -34,7 +34,7 @@ barred_by_is : (e : Option Erasure) (b : ℕ) → barred (standing_of e) b ≡ b
 barred_by_is None b = refl
 barred_by_is (Some e) b = by_running e.block e.left e.running
   where
-    by_running : (own l : ℕ) (r : Bool) → barred (standing_of (Some (record { block = own; left = l; running = r }))) b ≡ bars_burns r own b
+    by_running : (own l : ℕ) (r : Bool) → barred (standing_of (Some (record { block = own; left = l; running = r }))) b ≡ burn_barred r own b
     by_running own l true = refl
     by_running own l false = refl
 
@@ -46,7 +46,7 @@ hid_beside_by : (e : Option Erasure) → hid_beside (standing_of e) ≡ hidden_b
 hid_beside_by None = refl
 hid_beside_by (Some e) = by_running e.block e.left e.running
   where
-    by_running : (b l : ℕ) (r : Bool) → hid_beside (standing_of (Some (record { block = b; left = l; running = r }))) ≡ hides_cells_beside r
+    by_running : (b l : ℕ) (r : Bool) → hid_beside (standing_of (Some (record { block = b; left = l; running = r }))) ≡ peek_hidden_beside r
     by_running b l true = refl
     by_running b l false = refl
 
@@ -57,7 +57,7 @@ barred_beside_by_is : (e : Option Erasure) → barred_beside (standing_of e) ≡
 barred_beside_by_is None = refl
 barred_beside_by_is (Some e) = by_running e.block e.left e.running
   where
-    by_running : (b l : ℕ) (r : Bool) → barred_beside (standing_of (Some (record { block = b; left = l; running = r }))) ≡ bars_burns_beside r
+    by_running : (b l : ℕ) (r : Bool) → barred_beside (standing_of (Some (record { block = b; left = l; running = r }))) ≡ burn_barred_beside r
     by_running b l true = refl
     by_running b l false = refl
 
@@ -88,6 +88,23 @@ bars_none m b h = none_barred m.erasure b h
 pub hides_still : (m : Meaning) (e : Erasure) (b : ℕ) → m.erasure ≡ Some e → e.running ≡ false → hides m b ≡ eqb e.block b
 unfolding hides
 hides_still m e b d r = ap (λ (o : Option Erasure). hidden_by o b) d ∙ ap (λ (t : Bool). t || eqb e.block b) r
+
+-- other cells, or another reading of the clock, change neither
+pub hides_cells : (m : Meaning) (cells : List ℕ) (b : ℕ) → hides (with_cells m cells) b ≡ hides m b
+unfolding hides
+hides_cells m cells b = refl
+
+pub hides_ticked : (m : Meaning) (n b : ℕ) → hides (ticked m n) b ≡ hides m b
+unfolding hides
+hides_ticked m n b = refl
+
+pub bars_cells : (m : Meaning) (cells : List ℕ) (b : ℕ) → bars (with_cells m cells) b ≡ bars m b
+unfolding bars
+bars_cells m cells b = refl
+
+pub bars_ticked : (m : Meaning) (n b : ℕ) → bars (ticked m n) b ≡ bars m b
+unfolding bars
+bars_ticked m n b = refl
 
 barred_none : (e : Option Erasure) (b : ℕ) → barred_by e b ≡ false → is_some e ≡ false
 barred_none None b h = refl

@@ -13,7 +13,7 @@ use Rattle.part.specs.declared.answers.Progress.{Progress}
 use Rattle.part.specs.declared.answers.Progress.TheVariants.{Idle, Running, Suspended, Finished, Worn as Spoilt}
 use Rattle.part.specs.declared.answers.Turn.{Turn}
 use Rattle.part.specs.declared.answers.Turn.TheVariants.{Done, Nothing}
-use Rattle.part.specs.InTheWay.{hides_cells, bars_burns, hides_cells_beside, bars_burns_beside}
+use Rattle.part.specs.InTheWay.{peek_hidden, burn_barred, peek_hidden_beside, burn_barred_beside}
 use Rattle.part.specs.Meaning.{Erasure, Meaning, size, count, cell, block, guarded, worn, with_cells, with_erasure, ticked}
 
 -- Refusals. Each call has one function that says why it is refused, or that it is not; the checks run in rising number.
@@ -40,7 +40,7 @@ runs m = running m.erasure
 -- no cell of block b can be peeked now
 abbrev pub hidden_by : Option Erasure → ℕ → Bool
 hidden_by None b = false
-hidden_by (Some e) b = hides_cells e.running e.block b
+hidden_by (Some e) b = peek_hidden e.running e.block b
 
 unfoldable pub hides : Meaning → ℕ → Bool
 hides m b = hidden_by m.erasure b
@@ -48,7 +48,7 @@ hides m b = hidden_by m.erasure b
 -- no cell of block b can be burnt now
 abbrev pub barred_by : Option Erasure → ℕ → Bool
 barred_by None b = false
-barred_by (Some e) b = bars_burns e.running e.block b
+barred_by (Some e) b = burn_barred e.running e.block b
 
 unfoldable pub bars : Meaning → ℕ → Bool
 bars m b = barred_by m.erasure b
@@ -56,14 +56,14 @@ bars m b = barred_by m.erasure b
 -- no cell of a neighbour can be peeked, or burnt, now
 abbrev pub hidden_beside_by : Option Erasure → Bool
 hidden_beside_by None = false
-hidden_beside_by (Some e) = hides_cells_beside e.running
+hidden_beside_by (Some e) = peek_hidden_beside e.running
 
 abbrev pub hides_beside : Meaning → Bool
 hides_beside m = hidden_beside_by m.erasure
 
 abbrev pub barred_beside_by : Option Erasure → Bool
 barred_beside_by None = false
-barred_beside_by (Some e) = bars_burns_beside e.running
+barred_beside_by (Some e) = burn_barred_beside e.running
 
 abbrev pub bars_beside : Meaning → Bool
 bars_beside m = barred_beside_by m.erasure

@@ -2,16 +2,16 @@
 use Rattle.std.specs.Prelude.{ℕ, Bool, true, ◌||◌, ◌==◌}
 
 -- No cell of block b can be peeked: one that runs hides every block, and one that is suspended its own.
-abbrev pub hides_cells : Bool → ℕ → ℕ → Bool
-hides_cells running own b = running || own == b
+abbrev pub peek_hidden : Bool → ℕ → ℕ → Bool
+peek_hidden running own b = running || own == b
 
 -- No cell of block b can be burnt: it bars every block, whether it runs or is suspended.
-abbrev pub bars_burns : Bool → ℕ → ℕ → Bool
-bars_burns running own b = true
+abbrev pub burn_barred : Bool → ℕ → ℕ → Bool
+burn_barred running own b = true
 
 -- The same of a neighbour's blocks, as of the other side of a joined part.
-abbrev pub hides_cells_beside : Bool → Bool
-hides_cells_beside running = running
+abbrev pub peek_hidden_beside : Bool → Bool
+peek_hidden_beside running = running
 
-abbrev pub bars_burns_beside : Bool → Bool
-bars_burns_beside running = true
+abbrev pub burn_barred_beside : Bool → Bool
+burn_barred_beside running = true
