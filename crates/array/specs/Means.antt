@@ -5,7 +5,7 @@ use Rattle.part.specs.declared.answers.Standing.TheVariants.{Idle, Running, Susp
 use Rattle.part.specs.Meaning.{Erasure, Meaning}
 use Rattle.array.specs.declared.array.Array.{Array}
 use Rattle.array.specs.declared.array.Layout.{Layout}
-use Rattle.array.specs.Limits.{bytes, fit}
+use Rattle.array.specs.Limits.{least_width, bytes, fit}
 
 abbrev pub erasure_of : Standing → Option Erasure
 erasure_of Idle = None
@@ -28,7 +28,7 @@ means s = equal_blocks s.layout (vec_items s.cells) s.standing s.clock
 
 -- the layout of a dead array: no blocks
 abbrev pub no_blocks : Layout
-no_blocks = record { count = 0; width = 64 }
+no_blocks = record { count = 0; width = least_width }
 
 -- a new array: no erasure, and no time has passed
 abbrev pub new_array : Layout → List ℕ → Meaning

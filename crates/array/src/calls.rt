@@ -62,8 +62,8 @@ impl Part for Array {
         Ok(())
     }
 
-    #[tactic(auto, using(crate::proofs::Facts::held_running))]
     // An array is held in no time.
+    #[tactic(auto, using(crate::proofs::Facts::held_running))]
     fn hold(&mut self) -> Turn
         ensures answer { result ≡ can_hold (meaning self.old).erasure }
         ensures held { Held (meaning self.old) (meaning self.new) }

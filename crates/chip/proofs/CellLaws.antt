@@ -3,7 +3,7 @@ use Rattle.std.proofs.Common.{◌≡◌, ℕ, zero, suc, true, false, ◌||◌, 
 use Rattle.std.proofs.lemmas.Bool.{cond_both, both_ways}
 use Rattle.geometry.specs.Sets.{bit}
 use Rattle.flash.specs.Programs.{program_fails}
-use Rattle.flash.proofs.Cells.{length_after_program, length_after_erase, program_keeps, erase_keeps, broken_erase_keeps, program_clears, broken_erase_clears}
+use Rattle.flash.proofs.Cells.{length_after_program, length_after_erase, program_keeps, erase_keeps, broken_erase_keeps, program_other, program_clears, broken_erase_clears}
 use Rattle.chip.specs.declared.state.Phase.{Phase}
 use Rattle.chip.specs.declared.state.Phase.TheVariants.{Window, Erasing as Begun}
 use Rattle.chip.specs.declared.state.Program.{Program}
@@ -66,6 +66,11 @@ tick_sound f s =
       counted = omega arith;
     }
 
+pub passed_setup : (n : ℕ) (f : Flash) → (passed n f).setup ≡ f.setup
+unfolding passed
+passed_setup zero f = refl
+passed_setup (suc n) f = passed_setup n (tick f) ∙ (step_like f (due f.state)).0
+
 pub passed_keeps : (n : ℕ) → KeepsBlocks (passed n)
 unfolding passed
 passed_keeps zero f s a i x = refl
@@ -118,6 +123,12 @@ passed_clears zero f n a b t = t
 passed_clears (suc n) f e a b t =
     let one = step_clears f f.state refl e in
     one.1 a b (passed_clears n (tick f) one.0 a b t)
+
+-- A reset in a program leaves every other cell.
+pub reset_own_cell : (f : Flash) (p : Program) → f.state ≡ Programming p → (a : ℕ) → (a ≡ p.address → ⊥) → cell (after_reset f) a ≡ cell f a
+unfolding after_reset
+reset_own_cell f p s a o =
+    ap (λ (x : State). get_or (broken f x) a 0) s ∙ program_other (ground_of f) f.cells p.address p.byte a o
 
 pub reset_never_sets : (f : Flash) (a b : ℕ) → bit (cell (after_reset f) a) b ≡ true → bit (cell f a) b ≡ true
 unfolding after_reset

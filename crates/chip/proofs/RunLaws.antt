@@ -11,11 +11,11 @@ use Rattle.chip.specs.declared.state.State.TheVariants.{Ready, Programming, Eras
 use Rattle.chip.specs.Flash.{Flash, ground_of, inside, cell, protected, worn}
 use Rattle.chip.specs.Writes.{heeded, written}
 use Rattle.chip.specs.Reads.{flipped, seen}
-use Rattle.chip.specs.Times.{due, tick, passed, after}
+use Rattle.chip.specs.Times.{tick, passed, after}
 use Rattle.chip.specs.Resets.{broken_erase, broken, after_reset}
 use Rattle.chip.specs.Laws.{Sound}
 use Rattle.chip.specs.Runs.{Event, write, read, wait, reset, after_event, after_run, RunLaws}
-use Rattle.chip.proofs.CellLaws.{step_like, tick_sound, passed_keeps, reset_keeps}
+use Rattle.chip.proofs.CellLaws.{tick_sound, passed_setup, passed_keeps, reset_keeps}
 
 -- An event keeps a chip sound, its numbers, and the cells of protected and worn blocks.
 record Keeps (f g : Flash) : Type 0 where
@@ -36,11 +36,6 @@ passed_sound : (n : ℕ) (f : Flash) → Sound f → Sound (passed n f)
 unfolding passed
 passed_sound zero f h = h
 passed_sound (suc n) f h = passed_sound n (tick f) (tick_sound f h)
-
-passed_setup : (n : ℕ) (f : Flash) → (passed n f).setup ≡ f.setup
-unfolding passed
-passed_setup zero f = refl
-passed_setup (suc n) f = passed_setup n (tick f) ∙ (step_like f (due f.state)).0
 
 keeps_time : (f : Flash) (n : ℕ) → Keeps f (after n f)
 unfolding after

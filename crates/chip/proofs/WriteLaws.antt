@@ -1,7 +1,7 @@
 -- The laws of the write and the read cycle.
 use Rattle.std.proofs.Common.{◌||◌, ◌<◌, arith, ◌≡◌, ℕ, ◌-◌, Bool, true, false, cond, ◌&&◌, eqb, sym, refl, ap, ◌∙◌, subst, inl, inr}
 use Rattle.geometry.specs.declared.datasheet.Commands.{Commands}
-use Rattle.geometry.specs.Sets.{has, union}
+use Rattle.geometry.specs.Sets.{largest_set, has, union}
 use Rattle.geometry.specs.Blocks.{block_of}
 use Rattle.geometry.specs.Sheets.{low_bits}
 use Rattle.std.proofs.Math.Bool.{and-true}
@@ -13,6 +13,7 @@ use Rattle.flash.specs.declared.sequence.Place.{Place}
 use Rattle.flash.specs.declared.sequence.Place.TheVariants.{Start, Second, Command, Data, EraseStart, EraseSecond, EraseBlock}
 use Rattle.flash.specs.declared.sequence.Decision.{Decision}
 use Rattle.flash.specs.declared.sequence.Decision.TheVariants.{Next, Enter, GiveUp}
+use Rattle.chip.specs.declared.setup.Setup.{Setup}
 use Rattle.chip.specs.declared.state.Phase.{Phase}
 use Rattle.chip.specs.declared.state.Phase.TheVariants.{Window, Erasing as Begun}
 use Rattle.chip.specs.declared.state.Erase.{Erase}
@@ -24,9 +25,10 @@ use Rattle.chip.proofs.Updates.{with_state}
 use Rattle.chip.specs.Writes.{block_alone, obeyed, interrupted, heeded, written}
 use Rattle.chip.specs.Reads.{flipped, seen}
 use Rattle.chip.specs.Times.{passed, erase_time}
-use Rattle.chip.specs.Laws.{Fits, first_write, second_write, to_identify, to_program, any_byte, to_erase, third_write, fourth_write, in_block, unlocked, First, SecondAddress, WriteLaws, ReadLaws}
+use Rattle.chip.specs.Laws.{Fits, first_write, second_write, to_identify, to_program, any_byte, to_erase, third_write, fourth_write, in_block, unlocked, First, SecondAddress, Begins, WriteLaws, ReadLaws}
 use Rattle.geometry.proofs.Placing.{every_block, every_few}
 use Rattle.geometry.proofs.Sets.{has_only, has_union}
+use Rattle.chip.proofs.CellLaws.{passed_setup}
 use Rattle.chip.proofs.Passing.{passed_until, passed_over}
 
 -- A write in range, by what the chip was doing.
@@ -130,6 +132,10 @@ commanded f mode s x y z b p q r e =
 reopened : Flash → Erase → ℕ → Erase
 reopened f e a = record { phase = Window; selected = union e.selected (block_alone f a); left = window; toggle = e.toggle }
 
+-- The erasing that follows.
+begun : Flash → Erase → ℕ → Erase
+begun f e a = record { phase = Begun; selected = union e.selected (block_alone f a); left = erase_time f (union e.selected (block_alone f a)); toggle = e.toggle }
+
 adds : (f : Flash) (e : Erase) → f.state ≡ Erasing e → e.phase ≡ Window → (a : ℕ) → inside f a ≡ true
     → written f a 0x30 ≡ with_state f (Erasing (reopened f e a))
 unfolding reopened
@@ -149,13 +155,13 @@ ignored f s e a b h = by (inside f a)
 selects : (f : Flash) (e : Erase) (a b : ℕ) → inside f a ≡ true
     → has (union e.selected (block_alone f a)) b ≡ (has e.selected b || eqb b (block_of (blocks f) a))
 selects f e a b i =
-    let few : block_of (blocks f) a < 128 = omega (arith, every_block f.setup.kind a (ltb-true _ _ i), every_few f.setup.kind) in
+    let few : block_of (blocks f) a < largest_set = omega (arith, every_block f.setup.kind a (ltb-true _ _ i), every_few f.setup.kind) in
     let one : has (block_alone f a) b ≡ eqb b (block_of (blocks f) a) =
-    has_only (block_of (blocks f) a) b ∙ ap (λ (t : Bool). eqb b (block_of (blocks f) a) && t) (lt-ltb _ 128 few) ∙ and-true _ in
+    has_only (block_of (blocks f) a) b ∙ ap (λ (t : Bool). eqb b (block_of (blocks f) a) && t) (lt-ltb _ largest_set few) ∙ and-true _ in
     has_union e.selected (block_alone f a) b ∙ ap (λ (t : Bool). has e.selected b || t) one
 
 pub write_laws : WriteLaws
-unfolding written reopened
+unfolding written reopened begun
 write_laws = record {
   no_cell = λ f a b. same_cells (inside f a) f (heeded f f.state a b);
   no_time = λ f a b. same_clock (inside f a) f (heeded f f.state a b);
@@ -181,9 +187,12 @@ write_laws = record {
       );
   begins = λ f e s w a i.
       let g : Flash = with_state f (Erasing (reopened f e a)) in (
-        record { phase = Begun; selected = (reopened f e a).selected; left = erase_time f (reopened f e a).selected; toggle = e.toggle },
-        ap (λ (x : Flash). (passed window x).state) (adds f e s w a i) ∙ (passed_over window g refl).state,
-        refl,
+        begun f e a,
+        subst (λ (x : Flash). Begins (passed window x) (begun f e a)) (sym (adds f e s w a i)) (record {
+          erasing = (passed_over window g refl).state;
+          phase = refl;
+          whole = ap (λ (s : Setup). erase_time (record f { setup = s }) (begun f e a).selected) (sym (passed_setup window g));
+        }),
         refl,
       );
   adds = λ f e s w a i. (reopened f e a, ap (λ (x : Flash). x.state) (adds f e s w a i), refl, refl, λ b. selects f e a b i);

@@ -9,39 +9,37 @@ use Rattle.chip.specs.Making.{fresh, made}
 use Rattle.chip.specs.Writes.{written}
 use Rattle.chip.specs.Reads.{answered, seen}
 use Rattle.chip.specs.Times.{after}
-
-pub data Cycle : Type 0 where
-  write : ℕ → ℕ → Cycle
-  read : ℕ → Cycle
-  wait : ℕ → Cycle
+use Rattle.chip.specs.Resets.{after_reset}
+use Rattle.chip.specs.Runs.{Event, write, read, wait, reset}
 
 -- the byte read, or 256 where the read is refused
 abbrev pub byte_of : Result ℕ ChipFault → ℕ
 byte_of (Ok byte) = byte
 byte_of (Err fault) = 256
 
--- the bytes that are read in a run of cycles
-abbrev pub outcome : Flash → List Cycle → List ℕ
+-- the bytes that are read in a run of events
+abbrev pub outcome : Flash → List Event → List ℕ
 outcome f [] = []
 outcome f (write a byte ∷ cycles) = outcome (written f a byte) cycles
 outcome f (read a ∷ cycles) = byte_of (answered f a) ∷ outcome (seen f a) cycles
 outcome f (wait n ∷ cycles) = outcome (after n f) cycles
+outcome f (reset ∷ cycles) = outcome (after_reset f) cycles
 
 abbrev pub bench_chip : Flash
 bench_chip =
     made (record { kind = BENCH; program = 16; erase = 1000; suspend = 15; protected = none; worn = none }) (replicate 32768 0xFF)
 
-abbrev pub unlock : List Cycle
+abbrev pub unlock : List Event
 unlock = write 0x5555 0xAA ∷ write 0x2AAA 0x55 ∷ []
 
-abbrev pub program : ℕ → ℕ → List Cycle
+abbrev pub program : ℕ → ℕ → List Event
 program a byte = unlock ++ write 0x5555 0xA0 ∷ write a byte ∷ []
 
-abbrev pub erase : ℕ → List Cycle
+abbrev pub erase : ℕ → List Event
 erase a = unlock ++ write 0x5555 0x80 ∷ unlock ++ write a 0x30 ∷ []
 
 pub record Example : Type 0 where
-  pub cycles : List Cycle
+  pub cycles : List Event
   pub reads : List ℕ
 
 abbrev pub table : List Example

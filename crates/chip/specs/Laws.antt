@@ -4,7 +4,7 @@ use Rattle.std.specs.Prelude.{◌≡◌, ℕ, ◌+◌, ◌-◌, ◌*◌, ◌%◌
 use Rattle.geometry.specs.declared.datasheet.Commands.{Commands}
 use Rattle.geometry.specs.declared.set.BlockSet.{BlockSet}
 use Rattle.geometry.specs.Blocks.{block_of}
-use Rattle.geometry.specs.Sets.{bit, has, count_of, meets}
+use Rattle.geometry.specs.Sets.{bit, has, count_of, union, meets}
 use Rattle.geometry.specs.Sheets.{low_bits}
 use Rattle.flash.specs.Limits.{window as open_for, longest_erase, protected_erase}
 use Rattle.chip.specs.declared.chip.Chip.{Chip}
@@ -74,6 +74,12 @@ First f a = (inside f a ≡ true) × (low_bits (commands f) a ≡ (commands f).f
 abbrev pub SecondAddress : Flash → ℕ → Type 0
 SecondAddress f a = (inside f a ≡ true) × (low_bits (commands f) a ≡ (commands f).second)
 
+-- An erasing has just begun: all the time that it takes is left.
+pub record Begins (f : Flash) (e : Erase) : Type 0 where
+  pub erasing : f.state ≡ Erasing e
+  pub phase : e.phase ≡ Begun
+  pub whole : e.left ≡ erase_time f e.selected
+
 pub record WriteLaws : Type 0 where
   -- A write changes no cell: an operation that it starts changes them when it ends.
   pub no_cell : (f : Flash) (a b : ℕ) → (written f a b).cells ≡ f.cells
@@ -101,11 +107,11 @@ pub record WriteLaws : Type 0 where
       → written (unlocked (written (unlocked f x y) z 0x80) u v) a 0x30
       ≡ record f { state = Erasing (record { phase = Window; selected = block_alone f a; left = open_for; toggle = false }) }
   -- The window runs from the last 30h: however much of it was left, 49 microseconds later it is still open,
-  -- and 50 microseconds later the erasing has begun.
+  -- and 50 microseconds later the erasing of the blocks selected before and the one that the 30h names has begun.
   pub window : (f : Flash) (e : Erase) → f.state ≡ Erasing e → e.phase ≡ Window → (a : ℕ) → inside f a ≡ true
       → (n : ℕ) → n < open_for → (g : Erase) × ((passed n (written f a 0x30)).state ≡ Erasing g) × (g.phase ≡ Window)
   pub begins : (f : Flash) (e : Erase) → f.state ≡ Erasing e → e.phase ≡ Window → (a : ℕ) → inside f a ≡ true
-      → (g : Erase) × ((passed open_for (written f a 0x30)).state ≡ Erasing g) × (g.phase ≡ Begun) × (g.left ≡ erase_time f g.selected)
+      → (g : Erase) × Begins (passed open_for (written f a 0x30)) g × (g.selected ≡ union e.selected (block_alone f a))
   -- 30h in the window adds the block that it names to those selected, and nothing else.
   pub adds : (f : Flash) (e : Erase) → f.state ≡ Erasing e → e.phase ≡ Window → (a : ℕ) → inside f a ≡ true
       → (g : Erase) × ((written f a 0x30).state ≡ Erasing g) × (g.phase ≡ Window) × (g.toggle ≡ e.toggle)
@@ -159,12 +165,6 @@ pub data Holds (e : Erase) : State → Type 0 where
   stopping : (wait : ℕ) → Holds e (Suspending e wait)
   stopped : Holds e (Suspended e)
 
--- An erasing has just begun: all the time that it takes is left.
-pub record Begins (f : Flash) (e : Erase) : Type 0 where
-  pub erasing : f.state ≡ Erasing e
-  pub phase : e.phase ≡ Begun
-  pub whole : e.left ≡ erase_time f e.selected
-
 -- From one chip to another the blocks of a set have become FFh throughout, no other cell has changed, and the chip is in read mode.
 pub record Erased (f : Flash) (set : BlockSet) (g : Flash) : Type 0 where
   pub reads : g.state ≡ read_mode
@@ -217,6 +217,8 @@ pub record ResetLaws : Type 0 where
   pub no_time : (f : Flash) → (after_reset f).clock ≡ f.clock
   pub keeps_blocks : KeepsBlocks after_reset
   pub only_clears : OnlyClears after_reset
+  -- In a program it changes that program's cell alone.
+  pub own_cell : (f : Flash) (p : Program) → f.state ≡ Programming p → (a : ℕ) → (a ≢ p.address) → cell (after_reset f) a ≡ cell f a
   -- Whatever it breaks off, no bit of a cell goes from 0 to 1.
   pub never_sets : (f : Flash) (a b : ℕ) → bit (cell (after_reset f) a) b ≡ true → bit (cell f a) b ≡ true
 

@@ -7,19 +7,15 @@ ghost use Rattle.chip.specs.Times.{waited, after};
 ghost use Rattle.chip.specs.Laws.{WriteLaws, ReadLaws, PassLaws};
 
 use crate::chip::Chip;
-use fault::{Cause, ChipFault, LONGEST};
+use fault::{Cause, ChipFault, time_no};
 
-/// Refuses a time over the longest.
-pub fn short_enough(n: u32) -> Result<(), ChipFault>
+// Refuses a time over the longest.
+fn short_enough(n: u32) -> Result<(), ChipFault>
     ensures { result ≡ waited n }
 {
-    if n <= LONGEST {
-        Ok(())
-    } else {
-        Err(ChipFault {
-            cause: Cause::TimeTooLong,
-            place: n,
-        })
+    match time_no(n) {
+        None => Ok(()),
+        Some(cause) => Err(ChipFault { cause, place: n }),
     }
 }
 

@@ -15,7 +15,6 @@ mod unmade;
 mod writes;
 
 pub use chip::Chip;
-pub use cycles::short_enough;
 pub use setup::Setup;
 pub use state::{Erase, Phase, Program, State};
 pub use unmade::Unmade;
