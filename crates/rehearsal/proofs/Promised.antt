@@ -15,7 +15,8 @@ use Rattle.console.specs.declared.call.Call.{Call}
 use Rattle.console.specs.declared.call.Call.TheVariants.{Set, Clear, Recall, Next, Wait}
 use Rattle.part.specs.Neighbours.{elapsed}
 use Rattle.console.specs.Desks.{Desk, opened, moved, is_quiet}
-use Rattle.console.specs.Calls.{OpensClosed, OpensOn, Opens, Replies, desk_after, open_report}
+use Rattle.console.specs.Opening.{OpensClosed, OpensOn, Opens, desk_after, open_report}
+use Rattle.console.specs.Calls.{Replies}
 use Rattle.rehearsal.specs.declared.line.Line.{Line}
 use Rattle.rehearsal.specs.declared.account.Seats.{Seats}
 use Rattle.rehearsal.specs.declared.account.Opening.{Opening}

@@ -5,7 +5,8 @@ use Rattle.part.specs.Meaning.{Lawful}
 use Rattle.console.specs.declared.call.Call.{Call}
 use Rattle.console.specs.declared.call.Call.TheVariants.{Set, Clear}
 use Rattle.console.specs.Desks.{Desk}
-use Rattle.console.specs.Calls.{Opens, Replies}
+use Rattle.console.specs.Opening.{Opens}
+use Rattle.console.specs.Calls.{Replies}
 use Rattle.rehearsal.specs.declared.line.Line.{Line}
 use Rattle.rehearsal.specs.declared.account.Seats.{Seats}
 use Rattle.rehearsal.specs.declared.account.Opening.{Opening}
@@ -28,6 +29,8 @@ pub record OpensOnce (d : Desk) (on : Seats) (o : Opening) (e : Desk) : Type 0 w
   pub before : o.before ≡ d.part.clock
   pub after : o.after ≡ e.part.clock
   pub replies : Opens d on.first on.second o.reply e
+  -- and so before an opening, and after it
+  pub lawful_before : Lawful d.part
   pub lawful : Lawful e.part
 
 -- A console was opened, accepted or refused, and then these calls were made.

@@ -13,8 +13,9 @@ use Rattle.console.specs.declared.answers.Said.TheVariants.{Shows, Finds}
 use Rattle.console.specs.declared.call.Call.{Call}
 use Rattle.console.specs.declared.call.Call.TheVariants.{Set, Clear, Recall, Next, Wait}
 use Rattle.console.specs.Desks.{Desk, closed, is_quiet}
-use Rattle.console.specs.Storing.{fits}
-use Rattle.console.specs.Calls.{Opens, Replies}
+use Rattle.console.specs.Checks.{fits}
+use Rattle.console.specs.Opening.{Opens}
+use Rattle.console.specs.Calls.{Replies}
 use Rattle.rehearsal.specs.declared.line.Line.{Line}
 use Rattle.rehearsal.specs.declared.account.Seats.{Seats}
 use Rattle.rehearsal.specs.declared.account.Opening.{Opening}

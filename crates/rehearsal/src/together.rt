@@ -1,5 +1,4 @@
 ghost use Rattle.std.specs.Prelude.{◌≡◌, ◌≤◌, [], length, vec_capacity, IfOk, OnErr};
-ghost use Rattle.console.specs.Desks.{desk};
 ghost use Rattle.rehearsal.specs.Accounts.{Plays, OpensOnce, Performed};
 ghost use Rattle.rehearsal.specs.Promises.{Promise};
 ghost use Rattle.rehearsal.specs.Examples.{WorkedExamples};
@@ -12,8 +11,7 @@ use std::alloc::{AllocError, Global};
 
 /// Opens a console, and reads the clock before and after.
 fn open_once<P: Part + Drop>(console: &mut Console<P>, on: Seats) -> Opening
-    ensures { OpensOnce (desk (P.Part.means console.old.part) console.old.books) on result
-        (desk (P.Part.means console.new.part) console.new.books) }
+    ensures { OpensOnce console.old on result console.new }
 {
     let before = console.clock();
     let reply = console.open(on.first, on.second);
@@ -26,8 +24,7 @@ fn open_once<P: Part + Drop>(console: &mut Console<P>, on: Seats) -> Opening
 
 /// Makes one call, and reads the clock before and after.
 fn perform_once<P: Part + Drop>(console: &mut Console<P>, call: Call) -> Line
-    ensures { Plays (desk (P.Part.means console.old.part) console.old.books) call result
-        (desk (P.Part.means console.new.part) console.new.books) }
+    ensures { Plays console.old call result console.new }
 {
     let before = console.clock();
     let reply = console.perform(call);
@@ -47,8 +44,7 @@ fn play<P: Part + Drop>(
 ) -> Account
     requires empty { lines.items ≡ [] }
     requires room { length calls.now ≤ vec_capacity lines }
-    ensures { Performed (desk (P.Part.means console.old.part) console.old.books) on calls.now
-        result.opening result.lines.items (desk (P.Part.means console.new.part) console.new.books) }
+    ensures { Performed console.old on calls.now result.opening result.lines.items console.new }
 {
     let opening = open_once(console, on);
     for call in calls {
@@ -70,16 +66,14 @@ pub fn rehearse<P: Part + Drop, Q: Part + Drop>(
     calls: &[Call],
 ) -> Result<Rehearsal, AllocError>
     ensures quick_account { IfOk result (λ r.
-        Performed (desk (P.Part.means quick.old.part) quick.old.books) quick_on calls.now
-        r.quick.opening r.quick.lines.items (desk (P.Part.means quick.new.part) quick.new.books)) }
+        Performed quick.old quick_on calls.now r.quick.opening r.quick.lines.items quick.new) }
     ensures slow_account { IfOk result (λ r.
-        Performed (desk (Q.Part.means slow.old.part) slow.old.books) slow_on calls.now
-        r.slow.opening r.slow.lines.items (desk (Q.Part.means slow.new.part) slow.new.books)) }
+        Performed slow.old slow_on calls.now r.slow.opening r.slow.lines.items slow.new) }
     ensures memory { OnErr result ((quick.new ≡ quick.old) × (slow.new ≡ slow.old)) }
     // What an organist is promised.
     ensures promise { IfOk result (λ r. Promise calls.now quick_on slow_on
-        (desk (P.Part.means quick.old.part) quick.old.books) (desk (P.Part.means quick.new.part) quick.new.books)
-        (desk (Q.Part.means slow.old.part) slow.old.books) (desk (Q.Part.means slow.new.part) slow.new.books) r) }
+        quick.old quick.new
+        slow.old slow.new r) }
     ensures examples { WorkedExamples }
 {
     let quick_lines = Vec::with_capacity(heap, calls.len())?;

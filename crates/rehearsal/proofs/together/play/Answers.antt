@@ -1,6 +1,5 @@
 use Rattle.std.proofs.Common.{List, length, refl, ap, ◌∙◌, arith}
 use Rattle.std.proofs.lemmas.List.{take_more}
-use Rattle.console.specs.Desks.{desk}
 use Rattle.rehearsal.specs.declared.line.Line.{Line}
 use Rattle.rehearsal.proofs.Playing.{played_none, played_next}
 use Rattle.rehearsal.proofs.together.play.Goals as goal
@@ -19,7 +18,7 @@ loop-call-preserved g c =
     let one_more = take_more c.args.calls.now c.loop-call.call-index _ c.loop-call-test.true in
     record {
       played =
-          played_next {d = desk (g.P.Part.means start.part) start.books} {e = desk (g.P.Part.means end.part) end.books}
+          played_next {d = start} {e = end}
           {log = c.push_reserved.new.self.items} one_more c.push_reserved.ensures.items c.loop-call.invariant.played c.perform_once-line.ensures;
       written = omega arith;
       room = c.push_reserved.ensures.capacity ∙ c.loop-call.invariant.room;
