@@ -12,7 +12,7 @@ use Rattle.console.specs.Desks.{Desk}
 use Rattle.console.specs.Calls.{Replies}
 use Rattle.rehearsal.specs.declared.line.Line.{Line}
 use Rattle.rehearsal.specs.Accounts.{Accepted, LastSet, Emptied, Holds}
-use Rattle.rehearsal.specs.Promises.{said, Nearest, ShowsLast, FindsNearest, OnlyLooks, Kept, Same, Alike, Proper, Accepts}
+use Rattle.rehearsal.specs.Promises.{said, Nearest, ShowsLast, FindsNearest, OnlyLooks, Prompt, Kept, Same, Alike, Proper, Accepts}
 use Rattle.rehearsal.proofs.Tables.{Table, nothing, look, write, after, filled, or_then, nearest, is_position, tells, Looked, Told, Sure, end, then}
 
 -- 0 is not 1, which ends a clash of constructors.
@@ -223,18 +223,20 @@ finds_nearest n calls log g t p b r e =
 
 -- All that is promised of one console, by its table.
 pub kept : (n : ℕ) (calls : List Call) (log : List Line) (g : Table) (e : Desk) → Told n nothing calls log g
-    → ((c : Call) (r : Result Answer ConsoleFault) (k : Desk) → OnlyLooks c → Replies e c r k → look r ≡ tells n g c)
+    → ((c : Call) (r : Result Answer ConsoleFault) (k : Desk) → OnlyLooks c → Replies e c r k
+    → (look r ≡ tells n g c) × Prompt e.part.clock k.part.clock r)
     → Kept calls log n e
 kept n calls log g e t h = record {
-  recalls = λ p a b r k x. shows_last n calls log g t p a b r (h (Recall p) r k tt x);
-  nexts = λ p b r k x. finds_nearest n calls log g t p b r (h (Next p) r k tt x);
+  recalls = λ p a b r k x. shows_last n calls log g t p a b r (h (Recall p) r k tt x).0;
+  nexts = λ p b r k x. finds_nearest n calls log g t p b r (h (Next p) r k tt x).0;
   recalls_inside = λ i p l x y a b.
       let u = upto t i (Recall p) l x y in
       shows_last n (take i calls) (take i log) u.table u.told p a b l.reply (u.looked.told tt);
   nexts_inside = λ i p l x y b.
       let u = upto t i (Next p) l x y in
       finds_nearest n (take i calls) (take i log) u.table u.told p b l.reply (u.looked.told tt);
-  prompt = λ i c l x y o. (upto t i c l x y).looked.prompt o;
+  prompt_inside = λ i c l x y o. (upto t i c l x y).looked.prompt o;
+  prompt = λ c r k o x. (h c r k o x).1;
 }
 
 -- Two answers that are alike without their microseconds are the same.

@@ -13,16 +13,12 @@ use Rattle.fault.specs.declared.faults.ConsoleFault.{ConsoleFault}
 use Rattle.console.specs.declared.answers.Answer.{Answer}
 use Rattle.console.specs.declared.call.Call.{Call}
 use Rattle.console.specs.declared.call.Call.TheVariants.{Set, Clear, Recall, Next, Wait}
-use Rattle.part.specs.Neighbours.{elapsed}
 use Rattle.console.specs.Desks.{Desk, opened, moved, is_quiet}
 use Rattle.console.specs.Opening.{OpensClosed, OpensOn, Opens, desk_after, open_report}
 use Rattle.console.specs.Calls.{Replies}
 use Rattle.rehearsal.specs.declared.line.Line.{Line}
-use Rattle.rehearsal.specs.declared.account.Seats.{Seats}
-use Rattle.rehearsal.specs.declared.account.Opening.{Opening}
-use Rattle.rehearsal.specs.declared.account.Rehearsal.{Rehearsal}
-use Rattle.rehearsal.specs.Accounts.{Played, none, more, Performed}
-use Rattle.rehearsal.specs.Promises.{Reports, Kept, FromBlank, positions, Promise, SameAgain}
+use Rattle.rehearsal.specs.Accounts.{Run, Played, none, more, Performed}
+use Rattle.rehearsal.specs.Promises.{Prompt, Kept, FromBlank, positions, Promise, SameAgain}
 use Rattle.rehearsal.proofs.Tables.{Table, nothing, after, tells, Looked, Told, Sure, end, then}
 use Rattle.rehearsal.proofs.Keeping.{Rest, ready, erasing, spoilt, Keeps, Goes}
 use Rattle.rehearsal.proofs.Storing.{set_goes, clear_goes}
@@ -66,8 +62,8 @@ played o a b f d c calls log e l i k (more {k = h} {c = call} {cs = cs} {l = lin
     let next = played o a b (after call (is_ok line.reply) f) h g.books cs ls e p.lawful g.leaves g.keeps rest in
     let looked : Looked n f call line = record {
       told = λ only. g.looks only ∙ ap (λ (x : ℕ). tells x f call) k.positions;
-      prompt = λ only. subst (λ (x : ℕ). (elapsed x line.after ≤ 15) × Reports (elapsed x line.after) line.reply) (sym p.before)
-          (subst (λ (x : ℕ). (elapsed d.part.clock x ≤ 15) × Reports (elapsed d.part.clock x) line.reply) (sym p.after) (g.prompt only));
+      prompt = λ only. subst (λ (x : ℕ). Prompt x line.after line.reply) (sym p.before)
+          (subst (λ (x : ℕ). Prompt d.part.clock x line.reply) (sym p.after) (g.prompt only));
     } in
     record {
       table = next.table;
@@ -122,40 +118,40 @@ keeps_opened m a b c n f x s = record {
 }
 
 -- One console that was opened on two blank books.
-blank_run : (d : Desk) (on : Seats) (calls : List Call) (o : Opening) (log : List Line) (e : Desk) → Lawful d.part → Performed d on calls o log e
-    → FromBlank d on o → After d.part on.first on.second nothing calls log e
+blank_run : (calls : List Call) (r : Run) → Lawful r.before.part → Performed calls r → FromBlank r
+    → After r.before.part r.seats.first r.seats.second nothing calls r.lines r.after
 unfolding Opens
-blank_run d on calls o log e l p z =
-    let x : OpensClosed d.part on.first on.second o.reply p.start =
-    subst (λ (w : Option Pair). OpensOn w d on.first on.second o.reply p.start) z.closed p.opens.replies in
-    let t = took d.part on.first on.second o.reply p.start l z.accepted x in
-    played d.part on.first on.second nothing p.start t.books calls log e p.opens.lawful t.leaves
-    (keeps_opened d.part on.first on.second t.books p.start.part nothing t.opens (t.opens.empty (z.first, z.second))) p.played
+blank_run calls r l p z =
+    let m : Meaning = r.before.part in
+    let a : ℕ = r.seats.first in
+    let b : ℕ = r.seats.second in
+    let x : OpensClosed m a b r.opening.reply p.start = subst (λ (w : Option Pair). OpensOn w r.before a b r.opening.reply p.start) z.closed p.opens.replies in
+    let t = took m a b r.opening.reply p.start l z.accepted x in
+    played m a b nothing p.start t.books calls r.lines r.after p.opens.lawful t.leaves
+    (keeps_opened m a b t.books p.start.part nothing t.opens (t.opens.empty (z.first, z.second))) p.played
 
-keeps_promise : (d : Desk) (on : Seats) (calls : List Call) (o : Opening) (log : List Line) (e : Desk) → Lawful d.part → Performed d on calls o log e
-    → FromBlank d on o → Kept calls log (positions d.part on) e
-keeps_promise d on calls o log e l p z =
-    let x = blank_run d on calls o log e l p z in
-    kept (positions d.part on) calls log x.table e x.told
-    (λ c r k only y.
-    let g = goes d.part on.first on.second x.table e.part x.books c r k x.lawful x.keeps (subst (λ (w : Desk). Replies w c r k) x.leaves y) in
-    g.looks only ∙ ap (λ (n : ℕ). tells n x.table c) x.keeps.positions)
+keeps_promise : (calls : List Call) (r : Run) → Lawful r.before.part → Performed calls r → FromBlank r → Kept calls r.lines (positions r) r.after
+keeps_promise calls r l p z =
+    let x = blank_run calls r l p z in
+    kept (positions r) calls r.lines x.table r.after x.told
+    (λ c reply k only y.
+    let g = goes r.before.part r.seats.first r.seats.second x.table r.after.part x.books c reply k x.lawful x.keeps
+    (subst (λ (w : Desk). Replies w c reply k) x.leaves y) in
+    (g.looks only ∙ ap (λ (n : ℕ). tells n x.table c) x.keeps.positions, g.prompt only))
 
-pub promised : (calls : List Call) (quick slow : Seats) (d e k f : Desk) (r : Rehearsal) → Lawful d.part → Lawful k.part
-    → Performed d quick calls r.quick.opening r.quick.lines.items e → Performed k slow calls r.slow.opening r.slow.lines.items f
-    → Promise calls quick slow d e k f r
-promised calls quick slow d e k f r l m p q = record {
-  kept_quick = λ z. keeps_promise d quick calls r.quick.opening r.quick.lines.items e l p z;
-  kept_slow = λ z. keeps_promise k slow calls r.slow.opening r.slow.lines.items f m q z;
-  accepts_quick = λ z s. accepts ((blank_run d quick calls r.quick.opening r.quick.lines.items e l p z).sure s.0 s.1);
-  accepts_slow = λ z s. accepts ((blank_run k slow calls r.slow.opening r.slow.lines.items f m q z).sure s.0 s.1);
-  alike = λ y z w s t.
-      let i : positions k.part slow ≡ positions d.part quick = ap positions_of (sym w) in
-      alike (positions d.part quick) nothing calls r.quick.lines.items r.slow.lines.items
-      ((blank_run d quick calls r.quick.opening r.quick.lines.items e l p y).sure s.0 s.1)
-      (subst (λ (n : ℕ). Sure n nothing calls r.slow.lines.items) i
-      ((blank_run k slow calls r.slow.opening r.slow.lines.items f m q z).sure t.0 t.1));
-}
+pub promised : (calls : List Call) (quick slow : Run) → Performed calls quick → Performed calls slow → Promise calls quick slow
+promised calls quick slow p q =
+    let l = p.opens.lawful_before in
+    let m = q.opens.lawful_before in
+    record {
+      kept_quick = λ z. keeps_promise calls quick l p z;
+      kept_slow = λ z. keeps_promise calls slow m q z;
+      accepts_quick = λ z s. accepts ((blank_run calls quick l p z).sure s.0 s.1);
+      accepts_slow = λ z s. accepts ((blank_run calls slow m q z).sure s.0 s.1);
+      alike = λ y z w s t.
+          alike (positions quick) nothing calls quick.lines slow.lines ((blank_run calls quick l p y).sure s.0 s.1)
+          (subst (λ (n : ℕ). Sure n nothing calls slow.lines) (sym w) ((blank_run calls slow m q z).sure t.0 t.1));
+    }
 
 -- Opening again.
 quiet_ready : (e : Desk) (c : Pair) → e ≡ opened e.part c → is_quiet e ≡ true → Rest e.part c

@@ -1,5 +1,5 @@
 -- What a list of calls leaves at each position, and what its calls answer, by a table of the positions alone.
-use Rattle.std.proofs.Common.{◌≡◌, ℕ, zero, suc, ◌+◌, ◌-◌, ◌≤◌, Bool, cond, ◌&&◌, eqb, leb, ltb, List, [], ◌∷◌, Some, None, Ok, Err, Option, Result}
+use Rattle.std.proofs.Common.{◌≡◌, ℕ, zero, suc, ◌+◌, ◌-◌, Bool, cond, ◌&&◌, eqb, leb, ltb, List, [], ◌∷◌, Some, None, Ok, Err, Option, Result}
 use Rattle.std.specs.Prelude.{is_ok}
 use Rattle.fault.specs.declared.cause.Cause.TheVariants.{PositionOutside, StopOutside, TimeTooLong}
 use Rattle.part.specs.Calls.{longest}
@@ -9,11 +9,10 @@ use Rattle.console.specs.declared.answers.Said.{Said}
 use Rattle.console.specs.declared.answers.Said.TheVariants.{Done, Shows, Finds}
 use Rattle.console.specs.declared.call.Call.{Call}
 use Rattle.console.specs.declared.call.Call.TheVariants.{Set, Clear, Recall, Next, Wait}
-use Rattle.part.specs.Neighbours.{elapsed}
 use Rattle.console.specs.Faults.{no_place}
 use Rattle.fault.specs.Raising.{console_fault}
 use Rattle.rehearsal.specs.declared.line.Line.{Line}
-use Rattle.rehearsal.specs.Promises.{OnlyLooks, Reports}
+use Rattle.rehearsal.specs.Promises.{OnlyLooks, Prompt}
 
 -- what each position holds
 abbrev pub Table : Type 0
@@ -70,7 +69,7 @@ tells n f (Wait us) = cond (leb us longest) (Ok Done) (Err (console_fault (recor
 -- what one line of an account says of recall and next
 pub record Looked (n : ℕ) (f : Table) (c : Call) (l : Line) : Type 0 where
   pub told : OnlyLooks c → look l.reply ≡ tells n f c
-  pub prompt : OnlyLooks c → (elapsed l.before l.after ≤ 15) × Reports (elapsed l.before l.after) l.reply
+  pub prompt : OnlyLooks c → Prompt l.before l.after l.reply
 
 -- The account of a list says so of each of its calls; f is the table before the list, and g after it.
 pub data Told (n : ℕ) : Table → List Call → List Line → Table → Type 0 where

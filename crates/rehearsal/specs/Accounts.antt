@@ -33,11 +33,24 @@ pub record OpensOnce (d : Desk) (on : Seats) (o : Opening) (e : Desk) : Type 0 w
   pub lawful_before : Lawful d.part
   pub lawful : Lawful e.part
 
+-- One console in a rehearsal: as it was before, the blocks on which it was opened and how that went, the line of each call, and
+-- the console afterwards.
+pub record Run : Type 0 where
+  pub before : Desk
+  pub seats : Seats
+  pub opening : Opening
+  pub lines : List Line
+  pub after : Desk
+
+abbrev pub run : Desk → Seats → Opening → List Line → Desk → Run
+run before seats opening lines after = record { before = before; seats = seats; opening = opening; lines = lines; after = after }
+
 -- A console was opened, accepted or refused, and then these calls were made.
-pub record Performed (d : Desk) (on : Seats) (calls : List Call) (o : Opening) (log : List Line) (e : Desk) : Type 0 where
+pub record Performed (calls : List Call) (r : Run) : Type 0 where
+  -- the console as it was opened
   pub start : Desk
-  pub opens : OpensOnce d on o start
-  pub played : Played start calls log e
+  pub opens : OpensOnce r.before r.seats r.opening start
+  pub played : Played start calls r.lines r.after
 
 -- call i of the list is c, and was accepted
 pub record Accepted (calls : List Call) (log : List Line) (i : ℕ) (c : Call) : Type 0 where

@@ -2,7 +2,7 @@
 use Rattle.std.specs.Prelude.{◌≡◌, ℕ, ◌<◌, ◌≤◌, true, false, List, is_ok, take, Some, None, Ok, Err, Option, Result}
 use Rattle.std.specs.List.{slice_get}
 use Rattle.part.specs.Meaning.{Meaning, worn, Lawful}
-use Rattle.part.specs.Calls.{longest}
+use Rattle.part.specs.Calls.{longest, longest_hold}
 use Rattle.part.specs.Neighbours.{elapsed}
 use Rattle.book.specs.Pages.{blank}
 use Rattle.book.specs.Finding.{begins, width, positions_of}
@@ -18,9 +18,7 @@ use Rattle.console.specs.Opening.{Opens}
 use Rattle.console.specs.Calls.{Replies}
 use Rattle.rehearsal.specs.declared.line.Line.{Line}
 use Rattle.rehearsal.specs.declared.account.Seats.{Seats}
-use Rattle.rehearsal.specs.declared.account.Opening.{Opening}
-use Rattle.rehearsal.specs.declared.account.Rehearsal.{Rehearsal}
-use Rattle.rehearsal.specs.Accounts.{Played, Holds}
+use Rattle.rehearsal.specs.Accounts.{Run, Played, Holds}
 
 -- what an answer says, if the call was accepted
 abbrev pub said : Result Answer ConsoleFault → Option Said
@@ -54,6 +52,11 @@ abbrev pub Reports : ℕ → Result Answer ConsoleFault → Type 0
 Reports n (Ok x) = x.us ≡ n
 Reports n (Err f) = Unit {0}
 
+-- By the clock readings before and after it, an answer came within the longest hold, 15 microseconds. If it was accepted, it
+-- reports just the microseconds between the two readings.
+abbrev pub Prompt : ℕ → ℕ → Result Answer ConsoleFault → Type 0
+Prompt before after r = (elapsed before after ≤ longest_hold) × Reports (elapsed before after) r
+
 -- One console, with books of n positions, after these calls.
 pub record Kept (calls : List Call) (log : List Line) (n : ℕ) (e : Desk) : Type 0 where
   -- after the list
@@ -64,9 +67,10 @@ pub record Kept (calls : List Call) (log : List Line) (n : ℕ) (e : Desk) : Typ
       → ShowsLast (take i calls) (take i log) p l.reply
   pub nexts_inside : (i p : ℕ) (l : Line) → slice_get calls i ≡ Some (Next p) → slice_get log i ≡ Some l → p ≤ n
       → FindsNearest (take i calls) (take i log) n p l.reply
-  -- No recall or next, refused or not, moves the clock by more than 15 microseconds, and an accepted one reports just that.
-  pub prompt : (i : ℕ) (c : Call) (l : Line) → slice_get calls i ≡ Some c → slice_get log i ≡ Some l → OnlyLooks c
-      → (elapsed l.before l.after ≤ 15) × Reports (elapsed l.before l.after) l.reply
+  -- Each recall and next is prompt, refused or not, whatever position it names: inside the list, and after it.
+  pub prompt_inside : (i : ℕ) (c : Call) (l : Line) → slice_get calls i ≡ Some c → slice_get log i ≡ Some l → OnlyLooks c
+      → Prompt l.before l.after l.reply
+  pub prompt : (c : Call) (r : Result Answer ConsoleFault) (k : Desk) → OnlyLooks c → Replies e c r k → Prompt e.part.clock k.part.clock r
 
 -- two answers are the same, the microseconds aside
 abbrev pub Same : Result Answer ConsoleFault → Result Answer ConsoleFault → Type 0
@@ -97,30 +101,33 @@ abbrev pub BlankBlock : Meaning → ℕ → Type 0
 BlankBlock m a = blank m.cells (begins m a) (width m a) ≡ true
 
 -- The console was closed, and was opened on two books that were blank before.
-pub record FromBlank (d : Desk) (on : Seats) (o : Opening) : Type 0 where
-  pub closed : d.books ≡ None
-  pub first : BlankBlock d.part on.first
-  pub second : BlankBlock d.part on.second
-  pub accepted : is_ok o.reply ≡ true
+pub record FromBlank (r : Run) : Type 0 where
+  pub closed : r.before.books ≡ None
+  pub first : BlankBlock r.before.part r.seats.first
+  pub second : BlankBlock r.before.part r.seats.second
+  pub accepted : is_ok r.opening.reply ≡ true
 
 -- neither of the two blocks is worn
 abbrev pub Unworn : Meaning → Seats → Type 0
 Unworn m on = (worn m on.first ≡ false) × (worn m on.second ≡ false)
 
--- how many positions a console has that is opened on these blocks
-abbrev pub positions : Meaning → Seats → ℕ
-positions m on = positions_of (width m on.first)
+-- how many positions a console has in a rehearsal
+abbrev pub positions : Run → ℕ
+positions r = positions_of (width r.before.part r.seats.first)
 
--- What is promised of two consoles that were opened and given one list of calls: d and e are a console before and after.
-pub record Promise (calls : List Call) (quick slow : Seats) (d e k f : Desk) (r : Rehearsal) : Type 0 where
-  pub kept_quick : FromBlank d quick r.quick.opening → Kept calls r.quick.lines.items (positions d.part quick) e
-  pub kept_slow : FromBlank k slow r.slow.opening → Kept calls r.slow.lines.items (positions k.part slow) f
+-- neither of its book blocks is worn
+abbrev pub Sound : Run → Type 0
+Sound r = Unworn r.before.part r.seats
+
+-- What is promised of two consoles that were opened and given one list of calls.
+pub record Promise (calls : List Call) (quick slow : Run) : Type 0 where
+  pub kept_quick : FromBlank quick → Kept calls quick.lines (positions quick) quick.after
+  pub kept_slow : FromBlank slow → Kept calls slow.lines (positions slow) slow.after
   -- Without a worn book block nothing is refused that is within the limits.
-  pub accepts_quick : FromBlank d quick r.quick.opening → Unworn d.part quick → Accepts (positions d.part quick) calls r.quick.lines.items
-  pub accepts_slow : FromBlank k slow r.slow.opening → Unworn k.part slow → Accepts (positions k.part slow) calls r.slow.lines.items
+  pub accepts_quick : FromBlank quick → Sound quick → Accepts (positions quick) calls quick.lines
+  pub accepts_slow : FromBlank slow → Sound slow → Accepts (positions slow) calls slow.lines
   -- Books of one size, and no book block worn: the two answer alike.
-  pub alike : FromBlank d quick r.quick.opening → FromBlank k slow r.slow.opening → width d.part quick.first ≡ width k.part slow.first
-      → Unworn d.part quick → Unworn k.part slow → Alike calls r.quick.lines.items r.slow.lines.items
+  pub alike : FromBlank quick → FromBlank slow → positions quick ≡ positions slow → Sound quick → Sound slow → Alike calls quick.lines slow.lines
 
 -- A console made anew over the same part and opened again is the one that was, whenever quiet answers yes: the state is in the
 -- part. Whatever was opened, blank or not, and whatever calls were made.
