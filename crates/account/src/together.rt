@@ -100,6 +100,15 @@ fn print_row(rt: &HostRuntime, call: &str, quick: Reply, slow: Reply) -> Result<
     Ok(())
 }
 
+// A row for each call.
+fn rows_of(heap: Global) -> Result<Vec<Row>, AllocError> {
+    let mut rows = Vec::with_capacity(heap, CALLS.len())?;
+    for call in CALLS.iter() {
+        rows.push(Row::of(*call))?;
+    }
+    Ok(rows)
+}
+
 // The rehearsal, with its account.
 pub fn run(rt: &HostRuntime) -> Result<(), Trouble> {
     let heap = rt.alloc();
@@ -113,10 +122,7 @@ pub fn run(rt: &HostRuntime) -> Result<(), Trouble> {
         first: 1,
         second: 2,
     };
-    let mut rows = Vec::with_capacity(heap, CALLS.len())?;
-    for call in CALLS {
-        rows.push(Row::of(call))?;
-    }
+    let mut rows = rows_of(heap)?;
     let opened = rehearse(
         &mut quick,
         &mut slow,

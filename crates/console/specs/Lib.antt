@@ -1,4 +1,5 @@
 pub mod Desks
+pub mod Showing
 pub mod Faults
 pub mod Checks
 pub mod Opening

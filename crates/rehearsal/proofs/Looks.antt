@@ -26,7 +26,8 @@ use Rattle.console.specs.Desks.{Desk, opened, moved}
 use Rattle.console.specs.Faults.{no_place, reported, Refuses}
 use Rattle.console.specs.Looking.{searched, filled_at, or_else, shows, shown, finds, found, Looks, Recalls, Nexts}
 use Rattle.console.specs.Calls.{Replies}
-use Rattle.rehearsal.specs.Promises.{OnlyLooks, Reports}
+use Rattle.console.specs.Showing.{Reports}
+use Rattle.rehearsal.specs.Promises.{OnlyLooks}
 use Rattle.rehearsal.proofs.Tables.{Table, look, after, filled, or_then, nearest, is_position, tells}
 use Rattle.rehearsal.proofs.Keeping.{Rest, ready, erasing, spoilt, Keeps, Goes, keeps_ticked, keeps_for}
 

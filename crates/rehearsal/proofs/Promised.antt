@@ -17,14 +17,15 @@ use Rattle.console.specs.Desks.{Desk, opened, moved, is_quiet}
 use Rattle.console.specs.Opening.{OpensClosed, OpensOn, Opens, desk_after, open_report}
 use Rattle.console.specs.Calls.{Replies}
 use Rattle.rehearsal.specs.declared.line.Line.{Line}
-use Rattle.rehearsal.specs.Accounts.{Run, Played, none, more, Performed}
-use Rattle.rehearsal.specs.Promises.{Prompt, Kept, FromBlank, positions, Promise, SameAgain}
+use Rattle.console.specs.Showing.{books_show, Prompt}
+use Rattle.rehearsal.specs.Accounts.{Run, Past, Played, none, more, Performed, Holds, HoldsFromBlank}
+use Rattle.rehearsal.specs.Promises.{Kept, IsOpened, OnBlank, Sound, positions, past, ShowNothing, Alike, Trusty, Promise, SameAgain}
 use Rattle.rehearsal.proofs.Tables.{Table, nothing, after, tells, Looked, Told, Sure, end, then}
 use Rattle.rehearsal.proofs.Keeping.{Rest, ready, erasing, spoilt, Keeps, Goes}
 use Rattle.rehearsal.proofs.Storing.{set_goes, clear_goes}
 use Rattle.rehearsal.proofs.Looks.{recall_goes, next_goes}
 use Rattle.rehearsal.proofs.Waits.{keeps_ended, wait_goes}
-use Rattle.rehearsal.proofs.Listing.{kept, accepts, alike}
+use Rattle.rehearsal.proofs.Listing.{Last, holds, holds_from_blank, blank_case, kept, accepts, alike}
 
 -- Any of the five calls.
 goes : (o : Meaning) (a b : ℕ) (f : Table) (m : Meaning) (c : Pair) (call : Call) (r : Result Answer ConsoleFault) (e : Desk) → Lawful m
@@ -117,41 +118,86 @@ keeps_opened m a b c n f x s = record {
   rest = x.rest;
 }
 
--- One console that was opened on two blank books.
-blank_run : (calls : List Call) (r : Run) → Lawful r.before.part → Performed calls r → FromBlank r
-    → After r.before.part r.seats.first r.seats.second nothing calls r.lines r.after
-unfolding Opens
-blank_run calls r l p z =
-    let m : Meaning = r.before.part in
-    let a : ℕ = r.seats.first in
-    let b : ℕ = r.seats.second in
-    let x : OpensClosed m a b r.opening.reply p.start = subst (λ (w : Option Pair). OpensOn w r.before a b r.opening.reply p.start) z.closed p.opens.replies in
-    let t = took m a b r.opening.reply p.start l z.accepted x in
-    played m a b nothing p.start t.books calls r.lines r.after p.opens.lawful t.leaves
-    (keeps_opened m a b t.books p.start.part nothing t.opens (t.opens.empty (z.first, z.second))) p.played
+-- One console that was opened.
+module _ (calls : List Call) (r : Run) (p : Performed calls r) (z : IsOpened r) where
+  abbrev m : Meaning
+  m = r.before.part
 
-keeps_promise : (calls : List Call) (r : Run) → Lawful r.before.part → Performed calls r → FromBlank r → Kept calls r.lines (positions r) r.after
-keeps_promise calls r l p z =
-    let x = blank_run calls r l p z in
-    kept (positions r) calls r.lines x.table r.after x.told
-    (λ c reply k only y.
-    let g = goes r.before.part r.seats.first r.seats.second x.table r.after.part x.books c reply k x.lawful x.keeps
-    (subst (λ (w : Desk). Replies w c reply k) x.leaves y) in
-    (g.looks only ∙ ap (λ (n : ℕ). tells n x.table c) x.keeps.positions, g.prompt only))
+  abbrev first_seat : ℕ
+  first_seat = r.seats.first
+
+  abbrev second_seat : ℕ
+  second_seat = r.seats.second
+
+  its_books : Took m first_seat second_seat p.start
+  unfolding Opens
+  its_books =
+      took m first_seat second_seat r.opening.reply p.start p.opens.lawful_before z.accepted
+      (subst (λ (w : Option Pair). OpensOn w r.before first_seat second_seat r.opening.reply p.start) z.closed p.opens.replies)
+
+  -- what its books show, as they stand in the cells
+  in_cells : (q : ℕ) → books_show p.start q ≡ shown p.start.part.cells (page_at its_books.books.current.start q)
+  in_cells q = ap (λ (d : Desk). books_show d q) its_books.leaves
+
+  -- the list, from a table that says what they show
+  list_run : (f : Table) → ((q : ℕ) → 1 ≤ q → q ≤ positions r → books_show p.start q ≡ f q) → After m first_seat second_seat f calls r.lines r.after
+  list_run f s =
+      let t = its_books in
+      played m first_seat second_seat f p.start t.books calls r.lines r.after p.opens.lawful t.leaves
+      (keeps_opened m first_seat second_seat t.books p.start.part f t.opens
+      (λ q l h. sym (in_cells q) ∙ s q l (subst (λ (n : ℕ). q ≤ n) t.opens.positions h))) p.played
+
+  nothing_shown : OnBlank r → ShowNothing (positions r) p.start
+  nothing_shown b q l h = in_cells q ∙ its_books.opens.empty (b.first, b.second) q l (subst (λ (n : ℕ). q ≤ n) (sym its_books.opens.positions) h)
+
+  kept_by : (Holding : Past → ℕ → Option ℕ → Type 0) (f : Table)
+      → ((x : Past) (q : ℕ) (w : Option ℕ) → x.showed ≡ books_show p.start → Last x.calls x.lines q (f q) w → Holding x q w)
+      → ((q : ℕ) → 1 ≤ q → q ≤ positions r → books_show p.start q ≡ f q) → Kept Holding (past calls r p.start) (positions r) r.after
+  kept_by Holding f by s =
+      let x = list_run f s in
+      kept Holding (books_show p.start) f by (past calls r p.start) (positions r) x.table r.after refl x.told
+      (λ c reply k only y.
+      let g = goes m first_seat second_seat x.table r.after.part x.books c reply k x.lawful x.keeps
+      (subst (λ (w : Desk). Replies w c reply k) x.leaves y) in
+      (g.looks only ∙ ap (λ (n : ℕ). tells n x.table c) x.keeps.positions, g.prompt only))
+
+  trusty : Trusty calls r p.start
+  trusty = record {
+    kept = kept_by Holds (books_show p.start)
+        (λ x q w i l. holds x q w (subst (λ (v : Option ℕ). Last x.calls x.lines q v w) (sym (ap (λ (f : Table). f q) i)) l)) (λ _ _ _. refl);
+    blank = nothing_shown;
+    kept_from_blank = λ b. kept_by HoldsFromBlank nothing (λ x q w _ l. holds_from_blank x q w l) (nothing_shown b);
+    accepts = λ s. accepts ((list_run (books_show p.start) (λ _ _ _. refl)).sure s.0 s.1);
+  }
+
+-- Two consoles that begin with one table.
+alike_from : (calls : List Call) (quick slow : Run) (p : Performed calls quick) (q : Performed calls slow) (f : Table) → IsOpened quick → IsOpened slow
+    → positions quick ≡ positions slow
+    → ((i : ℕ) → 1 ≤ i → i ≤ positions quick → books_show p.start i ≡ f i) → ((i : ℕ) → 1 ≤ i → i ≤ positions slow → books_show q.start i ≡ f i)
+    → Sound quick → Sound slow → Alike calls quick.lines slow.lines
+alike_from calls quick slow p q f y z w s t u v =
+    alike (positions quick) f calls quick.lines slow.lines ((list_run calls quick p y f s).sure u.0 u.1)
+    (subst (λ (n : ℕ). Sure n f calls slow.lines) (sym w) ((list_run calls slow q z f t).sure v.0 v.1))
 
 pub promised : (calls : List Call) (quick slow : Run) → Performed calls quick → Performed calls slow → Promise calls quick slow
-promised calls quick slow p q =
-    let l = p.opens.lawful_before in
-    let m = q.opens.lawful_before in
-    record {
-      kept_quick = λ z. keeps_promise calls quick l p z;
-      kept_slow = λ z. keeps_promise calls slow m q z;
-      accepts_quick = λ z s. accepts ((blank_run calls quick l p z).sure s.0 s.1);
-      accepts_slow = λ z s. accepts ((blank_run calls slow m q z).sure s.0 s.1);
-      alike = λ y z w s t.
-          alike (positions quick) nothing calls quick.lines slow.lines ((blank_run calls quick l p y).sure s.0 s.1)
-          (subst (λ (n : ℕ). Sure n nothing calls slow.lines) (sym w) ((blank_run calls slow m q z).sure t.0 t.1));
-    }
+promised calls quick slow p q = record {
+  quick_trusty = trusty calls quick;
+  slow_trusty = trusty calls slow;
+  alike = λ x y a b w s u v.
+      alike_from calls quick slow x y (books_show x.start) a b w (λ _ _ _. refl)
+      (λ i l h. sym (s i l (subst (λ (n : ℕ). i ≤ n) (sym w) h))) u v;
+  alike_from_blank = λ a b c d w u v.
+      alike_from calls quick slow p q nothing a b w (nothing_shown calls quick p a c) (nothing_shown calls slow q b d) u v;
+  blank_case = blank_case;
+}
+
+-- The same of two lists of calls that are one, and of lines that were written before the other console's.
+pub promised_of : (calls again : List Call) (quick slow : Run) (lines : List Line) → again ≡ calls → lines ≡ quick.lines → Performed calls quick
+    → Performed again slow → Promise calls (record quick { lines = lines }) slow
+promised_of calls again quick slow lines e d p q =
+    promised calls (record quick { lines = lines }) slow
+    (subst (λ (ls : List Line). Performed calls (record quick { lines = ls })) (sym d) p)
+    (subst (λ (cs : List Call). Performed cs slow) e q)
 
 -- Opening again.
 quiet_ready : (e : Desk) (c : Pair) → e ≡ opened e.part c → is_quiet e ≡ true → Rest e.part c

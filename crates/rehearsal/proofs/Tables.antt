@@ -12,7 +12,8 @@ use Rattle.console.specs.declared.call.Call.TheVariants.{Set, Clear, Recall, Nex
 use Rattle.console.specs.Faults.{no_place}
 use Rattle.fault.specs.Raising.{console_fault}
 use Rattle.rehearsal.specs.declared.line.Line.{Line}
-use Rattle.rehearsal.specs.Promises.{OnlyLooks, Prompt}
+use Rattle.console.specs.Showing.{Prompt}
+use Rattle.rehearsal.specs.Promises.{OnlyLooks}
 
 -- what each position holds
 abbrev pub Table : Type 0

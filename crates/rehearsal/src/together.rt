@@ -56,7 +56,7 @@ fn play<P: Part + Drop>(
 }
 
 /// Opens two consoles, makes the calls of the rows on each, and writes both accounts into the rows.
-#[tactic(auto, using(crate::proofs::Promised::promised, crate::proofs::Worked::worked_examples))]
+#[tactic(auto, using(crate::proofs::Worked::worked_examples))]
 pub fn rehearse<P: Part + Drop, Q: Part + Drop>(
     quick: &mut Console<P>,
     slow: &mut Console<Q>,
