@@ -7,3 +7,4 @@ pub mod Waiting
 pub mod Storing
 pub mod Looking
 pub mod Calls
+pub mod Laws

@@ -9,6 +9,8 @@ use Rattle.fault.specs.declared.faults.ConsoleFault.{ConsoleFault}
 use Rattle.console.specs.declared.answers.Answer.{Answer}
 use Rattle.console.specs.declared.answers.Said.{Said}
 use Rattle.console.specs.declared.answers.Said.TheVariants.{Shows, Finds}
+use Rattle.console.specs.declared.call.Call.{Call}
+use Rattle.console.specs.declared.call.Call.TheVariants.{Set, Clear, Recall, Next, Wait}
 use Rattle.console.specs.Desks.{Desk}
 
 -- What the books show at a position: the stops in its page of the current book, or that it is empty. A console that is not open
@@ -38,6 +40,14 @@ ShowsHeld hold p r = (o : Option ℕ) × (said r ≡ Some (Shows o)) × hold p o
 -- A next is accepted and gives the nearest later position that is not empty, or none.
 abbrev pub FindsNearest : (ℕ → Option ℕ → Type 0) → ℕ → ℕ → Result Answer ConsoleFault → Type 0
 FindsNearest hold n p r = (o : Option ℕ) × (said r ≡ Some (Finds o)) × Nearest hold n p o
+
+-- recall and next
+abbrev pub OnlyLooks : Call → Type 0
+OnlyLooks (Set p s) = ⊥
+OnlyLooks (Clear p) = ⊥
+OnlyLooks (Recall p) = Unit {0}
+OnlyLooks (Next p) = Unit {0}
+OnlyLooks (Wait n) = ⊥
 
 -- an accepted call reports just so many microseconds
 abbrev pub Reports : ℕ → Result Answer ConsoleFault → Type 0

@@ -5,6 +5,7 @@ ghost use Rattle.fault.specs.declared.faults.PartFault.{PartFault as Fault};
 ghost use Rattle.part.specs.Meaning.{Meaning};
 ghost use Rattle.book.specs.Views.{pair_of};
 ghost use Rattle.console.specs.declared.answers.Said.{Said as Says};
+ghost use Rattle.console.specs.Laws.{RecallLaw, NextLaw};
 ghost use Rattle.console.specs.Looking.{shown, found, searched, Looks, Recalls, Nexts};
 
 use crate::answers::{Answer, Said};
@@ -84,7 +85,9 @@ impl<P: Part + Drop> Console<P> {
 
     /// Shows the stops at a position, or that it is empty.
     pub fn recall(&mut self, position: u32) -> Result<Answer, ConsoleFault>
-        ensures { Recalls self.old position result self.new }
+        ensures recalls { Recalls self.old position result self.new }
+        // It shows what the books show.
+        ensures law { RecallLaw }
     {
         let spot = recall_spot(self.books, position)?;
         self.look(position, &At(spot))
@@ -92,7 +95,9 @@ impl<P: Part + Drop> Console<P> {
 
     /// Gives the nearest filled position after one, from 0 on, or none.
     pub fn next(&mut self, position: u32) -> Result<Answer, ConsoleFault>
-        ensures { Nexts self.old position result self.new }
+        ensures nexts { Nexts self.old position result self.new }
+        // It finds what the books show.
+        ensures law { NextLaw }
     {
         let after = next_spot(self.books, position)?;
         self.look(position, &After(after))

@@ -1,6 +1,7 @@
 // set and clear: a position takes new stops, or none.
 ghost use Rattle.std.specs.Prelude.{◌≡◌, Some, None};
 ghost use Rattle.book.specs.Views.{pair_of};
+ghost use Rattle.console.specs.Laws.{OrderLaw, SetLaw, ClearLaw};
 ghost use Rattle.console.specs.Storing.{way, Changes, Goes, Stored, Stores};
 
 use crate::answers::{Answer, Said};
@@ -101,15 +102,22 @@ impl<P: Part + Drop> Console<P> {
     }
 
     /// Stores a registration at a position, and reports the microseconds.
+    #[tactic(auto, using(crate::proofs::LawsOfShowing::set_law, crate::proofs::LawsOfShowing::order_law))]
     pub fn set(&mut self, position: u32, stops: u64) -> Result<Answer, ConsoleFault>
-        ensures { Stores self.old position (Some stops) result self.new }
+        ensures stores { Stores self.old position (Some stops) result self.new }
+        // What the books show at every position afterwards.
+        ensures law { SetLaw }
+        // What the laws of the calls need holds of every opened console.
+        ensures order { OrderLaw }
     {
         self.store(position, Some(stops))
     }
 
     /// Empties a position, and reports the microseconds.
+    #[tactic(auto, using(crate::proofs::LawsOfShowing::clear_law))]
     pub fn clear(&mut self, position: u32) -> Result<Answer, ConsoleFault>
-        ensures { Stores self.old position None result self.new }
+        ensures stores { Stores self.old position None result self.new }
+        ensures law { ClearLaw }
     {
         self.store(position, None)
     }

@@ -1,20 +1,20 @@
 -- What an account says of the positions, call by call, and that the table of the positions says the same.
-use Rattle.std.proofs.Common.{◌≡◌, ℕ, zero, suc, ◌+◌, ◌-◌, ◌<◌, ◌≤◌, Bool, true, false, eqb, leb, ltb, List, [], ◌∷◌, take, Some, None, Ok, Err, Option, Result, slice_get, is_ok, sym, refl, ap, ◌∙◌, subst, inl, inr, arith}
+use Rattle.std.proofs.Common.{◌≡◌, ℕ, zero, suc, ◌<◌, Bool, true, false, eqb, leb, ltb, List, [], ◌∷◌, take, Some, None, Ok, Err, Option, Result, slice_get, is_ok, sym, refl, ap, ◌∙◌, subst, inl, inr, arith}
 use Rattle.std.proofs.lemmas.Bool.{cases_Bool, cases_lt, cond-true, cond-false, eqb-true, eqb-false, le-leb, and_from}
 use Rattle.part.specs.Calls.{longest}
 use Rattle.fault.specs.declared.faults.ConsoleFault.{ConsoleFault}
 use Rattle.console.specs.declared.answers.Answer.{Answer}
-use Rattle.console.specs.declared.answers.Said.{Said}
-use Rattle.console.specs.declared.answers.Said.TheVariants.{Shows, Finds}
 use Rattle.console.specs.declared.call.Call.{Call}
 use Rattle.console.specs.declared.call.Call.TheVariants.{Set, Clear, Recall, Next, Wait}
 use Rattle.console.specs.Desks.{Desk}
 use Rattle.console.specs.Calls.{Replies}
 use Rattle.rehearsal.specs.declared.line.Line.{Line}
 use Rattle.rehearsal.specs.Accounts.{Accepted, LastSet, LastClear, Untouched, Emptied, Past, first_calls, Holds, as_set, cleared, as_opened, HoldsFromBlank, BlankCase}
-use Rattle.console.specs.Showing.{said, Nearest, ShowsHeld, FindsNearest, Prompt}
-use Rattle.rehearsal.specs.Promises.{OnlyLooks, Kept, Same, Alike, Proper, Accepts}
-use Rattle.rehearsal.proofs.Tables.{Table, look, write, after, filled, or_then, nearest, is_position, tells, Looked, Told, Sure, end, then}
+use Rattle.console.specs.Showing.{OnlyLooks, Prompt}
+use Rattle.rehearsal.specs.Promises.{Kept, Same, Alike, Proper, Accepts}
+use Rattle.console.proofs.Tables.{Table, look, write, after, is_position, tells}
+use Rattle.console.proofs.Telling.{shows_held, finds_nearest}
+use Rattle.rehearsal.proofs.Tables.{Looked, Told, Sure, end, then}
 
 -- 0 is not 1, which ends a clash of constructors.
 no_one : ◌≡◌ {A = ℕ} 0 1 → ⊥
@@ -173,33 +173,6 @@ blank_case past p v e (as_set s r i) = holds_from_blank past p v (set_last s r i
 blank_case past p v e (cleared r i) = holds_from_blank past p v (cleared_last r i)
 blank_case past p v e (as_opened m i) = holds_from_blank past p v (untouched m (i ∙ e))
 
--- One position more of a search.
-nearest_one : (hold : ℕ → Option ℕ → Type 0) (p k : ℕ) (x v : Option ℕ) → hold (p + suc k) v → Nearest hold (p + k) p x
-    → Nearest hold (p + suc k) p (or_then x (filled v (p + suc k)))
-nearest_one hold p k None None h m = λ q a b.
-    elim (cases_lt (p + k) q) [
-      | inl c ↦ let e : p + suc k ≡ q = omega arith in subst (λ (i : ℕ). hold i None) e h
-      | inr c ↦ m q a c
-    ]
-nearest_one hold p k None (Some s) h m =
-    (omega arith, omega arith, (s, h), λ j a b. m j a (omega arith))
-nearest_one hold p k (Some q) v h m = (m.0, omega (arith, m.1), m.2, m.3)
-
--- The same up to the k-th position after p, as far as the table says what is held.
-nearest_by : (hold : ℕ → Option ℕ → Type 0) (g : Table) (p k : ℕ) → ((q : ℕ) → p < q → q ≤ p + k → hold q (g q)) → Nearest hold (p + k) p (nearest g p k)
-unfolding nearest
-nearest_by hold g p zero h = λ q a b. absurd (omega arith)
-nearest_by hold g p (suc k) h =
-    nearest_one hold p k (nearest g p k) (g (p + suc k)) (h (p + suc k) (omega arith) (omega arith))
-    (nearest_by hold g p k (λ q a b. h q a (omega arith)))
-
--- The nearest filled position in the table, up to n.
-pub nearest_holds : (hold : ℕ → Option ℕ → Type 0) (g : Table) (n p : ℕ) → p ≤ n → ((q : ℕ) → p < q → q ≤ n → hold q (g q))
-    → Nearest hold n p (nearest g p (n - p))
-nearest_holds hold g n p b h =
-    let e : p + (n - p) ≡ n = omega arith in
-    subst (λ (i : ℕ). Nearest hold i p (nearest g p (n - p))) e (nearest_by hold g p (n - p) (λ q l i. h q l (omega (arith, e, i))))
-
 -- An account up to its line i, and what line i says.
 record Upto (n : ℕ) (f : Table) (calls : List Call) (log : List Line) (i : ℕ) (c : Call) (l : Line) : Type 0 where
   table : Table
@@ -219,28 +192,6 @@ upto {n = n} (then {f = f} {c = d} {l = k} a t) zero c l x y =
 upto (then a t) (suc i) c l x y =
     let r = upto t i c l x y in
     record { table = r.table; told = then a r.told; looked = r.looked }
-
--- what an answer says, by what it says without its microseconds
-said_by : (r : Result Answer ConsoleFault) (s : Said) → look r ≡ Ok s → said r ≡ Some s
-said_by (Ok x) s e = cc
-said_by (Err f) s e = absurd (no_one cc)
-
--- what the table tells of a recall and a next that are in range
-tells_recall : (n : ℕ) (g : Table) (p : ℕ) → 1 ≤ p → p ≤ n → tells n g (Recall p) ≡ Ok (Shows (g p))
-tells_recall n g p a b = cond-true (is_position n p) _ _ (and_from _ _ (le-leb 1 p a) (le-leb p n b))
-
-tells_next : (n : ℕ) (g : Table) (p : ℕ) → p ≤ n → tells n g (Next p) ≡ Ok (Finds (nearest g p (n - p)))
-tells_next n g p b = cond-true (leb p n) _ _ (le-leb p n b)
-
--- What a recall and a next say, by what the table tells.
-pub shows_held : (hold : ℕ → Option ℕ → Type 0) (n : ℕ) (g : Table) (p : ℕ) → 1 ≤ p → p ≤ n → hold p (g p)
-    → (r : Result Answer ConsoleFault) → look r ≡ tells n g (Recall p) → ShowsHeld hold p r
-shows_held hold n g p a b h r e = (g p, said_by r (Shows (g p)) (e ∙ tells_recall n g p a b), h)
-
-pub finds_nearest : (hold : ℕ → Option ℕ → Type 0) (n : ℕ) (g : Table) (p : ℕ) → p ≤ n → ((q : ℕ) → p < q → q ≤ n → hold q (g q))
-    → (r : Result Answer ConsoleFault) → look r ≡ tells n g (Next p) → FindsNearest hold n p r
-finds_nearest hold n g p b h r e =
-    (nearest g p (n - p), said_by r (Finds (nearest g p (n - p))) (e ∙ tells_next n g p b), nearest_holds hold g n p b h)
 
 -- All that is promised of one console, by its table: f is the table before the list, and `showed` what the books showed.
 pub kept : (Holding : Past → ℕ → Option ℕ → Type 0) (showed f : Table)

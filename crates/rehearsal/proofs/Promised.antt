@@ -1,40 +1,26 @@
 -- The promise, from what each single call does.
-use Rattle.std.proofs.Common.{◌≡◌, ℕ, ◌<◌, ◌≤◌, true, false, not, List, is_some, None, Ok, Err, Option, Result, sym, refl, ap, ◌∙◌, subst, arith}
+use Rattle.std.proofs.Common.{◌≡◌, ℕ, ◌<◌, ◌≤◌, true, false, not, List, is_some, None, Ok, Option, sym, refl, ap, ◌∙◌, subst, arith}
 use Rattle.std.specs.Prelude.{is_ok}
 use Rattle.std.proofs.lemmas.Bool.{both_ways, and_parts, not-true}
-use Rattle.fault.specs.declared.faults.PartFault.{PartFault}
 use Rattle.part.specs.Meaning.{Meaning, worn, Lawful}
 use Rattle.part.specs.Calls.{stands}
 use Rattle.book.specs.Pages.{page_at, shown, blank}
 use Rattle.book.specs.Pairs.{Pair, book_size}
-use Rattle.book.specs.Finding.{width, positions_of, Opened}
-use Rattle.book.proofs.Opening.{OpenBooks, opened_books, opened_again}
-use Rattle.fault.specs.declared.faults.ConsoleFault.{ConsoleFault}
-use Rattle.console.specs.declared.answers.Answer.{Answer}
+use Rattle.book.specs.Finding.{width, positions_of}
+use Rattle.book.proofs.Opening.{opened_again}
 use Rattle.console.specs.declared.call.Call.{Call}
-use Rattle.console.specs.declared.call.Call.TheVariants.{Set, Clear, Recall, Next, Wait}
 use Rattle.console.specs.Desks.{Desk, opened, moved, is_quiet}
-use Rattle.console.specs.Opening.{OpensClosed, OpensOn, Opens, desk_after, open_report}
+use Rattle.console.specs.Opening.{OpensOn, Opens, desk_after, open_report}
 use Rattle.console.specs.Calls.{Replies}
 use Rattle.rehearsal.specs.declared.line.Line.{Line}
 use Rattle.console.specs.Showing.{books_show, Prompt}
 use Rattle.rehearsal.specs.Accounts.{Run, Past, Played, none, more, Performed, Holds, HoldsFromBlank}
 use Rattle.rehearsal.specs.Promises.{Kept, IsOpened, OnBlank, Sound, positions, past, ShowNothing, Alike, Trusty, Promise, SameAgain}
-use Rattle.rehearsal.proofs.Tables.{Table, nothing, after, tells, Looked, Told, Sure, end, then}
-use Rattle.rehearsal.proofs.Keeping.{Rest, ready, erasing, spoilt, Keeps, Goes}
-use Rattle.rehearsal.proofs.Storing.{set_goes, clear_goes}
-use Rattle.rehearsal.proofs.Looks.{recall_goes, next_goes}
-use Rattle.rehearsal.proofs.Waits.{keeps_ended, wait_goes}
+use Rattle.console.proofs.Tables.{Table, nothing, after, tells}
+use Rattle.rehearsal.proofs.Tables.{Looked, Told, Sure, end, then}
+use Rattle.console.proofs.Keeping.{Rest, ready, erasing, spoilt, Keeps}
+use Rattle.console.proofs.Going.{goes, Took, took, keeps_opened}
 use Rattle.rehearsal.proofs.Listing.{Last, holds, holds_from_blank, blank_case, kept, accepts, alike}
-
--- Any of the five calls.
-goes : (o : Meaning) (a b : ℕ) (f : Table) (m : Meaning) (c : Pair) (call : Call) (r : Result Answer ConsoleFault) (e : Desk) → Lawful m
-    → Keeps o a b f m c → Replies (opened m c) call r e → Goes o a b f m c call r e
-goes o a b f m c (Set p stops) r e l k x = let d = keeps_ended o a b f m c l k in set_goes o a b f m c k d.keeps d.idle p stops r e x
-goes o a b f m c (Clear p) r e l k x = let d = keeps_ended o a b f m c l k in clear_goes o a b f m c k d.keeps d.idle p r e x
-goes o a b f m c (Recall p) r e l k x = recall_goes o a b f m c p r e l k x
-goes o a b f m c (Next p) r e l k x = next_goes o a b f m c p r e l k x
-goes o a b f m c (Wait us) r e l k x = wait_goes o a b f m c us r e l k x
 
 -- What holds after a list of calls, and what its account tells.
 record After (o : Meaning) (a b : ℕ) (f : Table) (calls : List Call) (log : List Line) (e : Desk) : Type 0 where
@@ -76,47 +62,9 @@ played o a b f d c calls log e l i k (more {k = h} {c = call} {cs = cs} {l = lin
       lawful = next.lawful;
     }
 
--- what an opening that was accepted has taken
-record Took (m : Meaning) (a b : ℕ) (e : Desk) : Type 0 where
-  books : Pair
-  leaves : e ≡ opened e.part books
-  opens : OpenBooks m a b books e.part
-
-took : (m : Meaning) (a b : ℕ) (r : Result ℕ ConsoleFault) (e : Desk) → Lawful m → is_ok r ≡ true → OpensClosed m a b r e → Took m a b e
-took m a b r e l t x = by x.taken refl
-  where
-    by : (q : Result Pair PartFault) → x.taken ≡ q → Took m a b e
-    by (Ok c) d =
-        let y : Opened m a b (Ok c) x.part = subst (λ (q : Result Pair PartFault). Opened m a b q x.part) d x.opens in
-        let i : e ≡ opened x.part c = x.leaves ∙ ap (desk_after x.part) d in
-        let j : e.part ≡ x.part = ap (λ (z : Desk). z.part) i in
-        record {
-          books = c;
-          leaves = i ∙ ap (λ (z : Meaning). opened z c) (sym j);
-          opens = subst (λ (z : Meaning). OpenBooks m a b c z) (sym j) (opened_books m a b c x.part l y);
-        }
-    by (Err f) d =
-        let y : is_ok r ≡ false = ap (λ (z : Result ℕ ConsoleFault). is_ok z) (x.says ∙ ap (open_report m x.part) d) in
-        absurd (both_ways (is_ok r) y t)
-
 -- the table with which it begins
 abbrev first_table : Meaning → Pair → Table
 first_table m c p = shown m.cells (page_at c.current.start p)
-
-keeps_opened : (m : Meaning) (a b : ℕ) (c : Pair) (n : Meaning) (f : Table) → OpenBooks m a b c n
-    → ((p : ℕ) → 1 ≤ p → p ≤ c.positions → shown n.cells (page_at c.current.start p) ≡ f p) → Keeps m a b f n c
-keeps_opened m a b c n f x s = record {
-  seated = x.seated;
-  blocks = x.blocks;
-  sizes = x.sizes;
-  guards = x.guards;
-  wears = x.wears;
-  positions = x.positions;
-  head = x.head;
-  readable = x.readable;
-  shows = s;
-  rest = x.rest;
-}
 
 -- One console that was opened.
 module _ (calls : List Call) (r : Run) (p : Performed calls r) (z : IsOpened r) where

@@ -10,21 +10,13 @@ use Rattle.console.specs.declared.answers.Answer.{Answer}
 use Rattle.console.specs.declared.call.Call.{Call}
 use Rattle.console.specs.declared.call.Call.TheVariants.{Set, Clear, Recall, Next, Wait}
 use Rattle.console.specs.Desks.{Desk, closed, is_quiet}
-use Rattle.console.specs.Showing.{books_show, ShowsHeld, FindsNearest, Prompt}
+use Rattle.console.specs.Showing.{books_show, ShowsHeld, FindsNearest, OnlyLooks, Prompt}
 use Rattle.console.specs.Checks.{fits}
 use Rattle.console.specs.Opening.{Opens}
 use Rattle.console.specs.Calls.{Replies}
 use Rattle.rehearsal.specs.declared.line.Line.{Line}
 use Rattle.rehearsal.specs.declared.account.Seats.{Seats}
 use Rattle.rehearsal.specs.Accounts.{Run, Past, first_calls, Played, Performed, Holds, HoldsFromBlank, BlankCase}
-
--- recall and next
-abbrev pub OnlyLooks : Call → Type 0
-OnlyLooks (Set p s) = ⊥
-OnlyLooks (Clear p) = ⊥
-OnlyLooks (Recall p) = Unit {0}
-OnlyLooks (Next p) = Unit {0}
-OnlyLooks (Wait n) = ⊥
 
 -- One console, with books of n positions, after what came before. `Holding` says what a position holds by that.
 pub record Kept (Holding : Past → ℕ → Option ℕ → Type 0) (past : Past) (n : ℕ) (e : Desk) : Type 0 where

@@ -4,6 +4,7 @@ use Rattle.book.specs.Views.{pair_of}
 use Rattle.console.specs.Desks.{Desk}
 use Rattle.console.specs.Checks.{next_books}
 use Rattle.console.specs.Looking.{found, Looks, Nexts}
+use Rattle.console.proofs.LawsOfShowing.{next_law}
 use Rattle.console.proofs.Calling.{refused_by, made_by}
 use Rattle.console.proofs.console.Console.next.Goals as goal
 
@@ -11,12 +12,18 @@ pub returns-in_err-after : goal.returns-in_err-after
 unfolding Nexts
 returns-in_err-after g c =
     let p = err_from_is_err_and c.from_residual.result c.from_residual.ensures.1 in
-    refused_by (λ o. next_books o c.args.position) _ c.args.self.now _ c.args.position c.in_err-after.field-0.0 c.from_residual.result
-    (ap (λ (d : Desk). d.books) c.self.view_is) c.in_err-after.ensures (p.1 ∙ ap Err p.2)
+    record {
+      nexts = refused_by (λ o. next_books o c.args.position) _ c.args.self.now _ c.args.position c.in_err-after.field-0.0 c.from_residual.result
+          (ap (λ (d : Desk). d.books) c.self.view_is) c.in_err-after.ensures (p.1 ∙ ap Err p.2);
+      law = next_law;
+    }
 
 pub returns : goal.returns
 unfolding Nexts
 returns g c =
     let s = c.in_ok-after.after in
-    made_by (λ o. next_books o c.args.position) _ _ c.args.self.now _ c.args.position s (ap (λ (d : Desk). d.books) c.self.view_is) c.in_ok-after.ensures
-    (λ at. subst (λ (q : ℕ). Looks c.args.self.now c.args.position (found (pair_of s.books) q) c.look.result c.look.new.self) at c.look.ensures)
+    record {
+      nexts = made_by (λ o. next_books o c.args.position) _ _ c.args.self.now _ c.args.position s (ap (λ (d : Desk). d.books) c.self.view_is) c.in_ok-after.ensures
+          (λ at. subst (λ (q : ℕ). Looks c.args.self.now c.args.position (found (pair_of s.books) q) c.look.result c.look.new.self) at c.look.ensures);
+      law = next_law;
+    }

@@ -18,8 +18,8 @@ use Rattle.console.specs.declared.call.Call.TheVariants.{Wait}
 use Rattle.console.specs.Desks.{Desk, opened}
 use Rattle.console.specs.Waiting.{wait_time, let_end_by, let_end, ends_worn_by, ends_worn, is_worn, pass_worn, waited as wait_report, Waits}
 use Rattle.console.specs.Calls.{Replies}
-use Rattle.rehearsal.proofs.Tables.{Table, look, after, tells}
-use Rattle.rehearsal.proofs.Keeping.{Rest, ready, erasing, spoilt, Keeps, Goes, keeps_ticked, keeps_for}
+use Rattle.console.proofs.Tables.{Table, look, after, tells}
+use Rattle.console.proofs.Keeping.{Rest, ready, erasing, spoilt, Keeps, Goes, keeps_ticked, keeps_for}
 
 -- A book that is not spoilt now is as spoilt as it was.
 not_spoilt : (c : Pair) → spoilt_if false c ≡ c

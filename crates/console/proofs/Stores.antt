@@ -29,8 +29,8 @@ use Rattle.console.specs.declared.answers.Answer.{Answer}
 use Rattle.console.specs.declared.call.Call.TheVariants.{Set, Clear}
 use Rattle.console.specs.Calls.{Replies}
 use Rattle.console.proofs.Ways.{Went, empty, line, change, spoilt as refused, went}
-use Rattle.rehearsal.proofs.Tables.{Table, look, is_position, outside}
-use Rattle.rehearsal.proofs.Keeping.{Rest, ready, erasing, spoilt, InBlocks, Keeps, keeps_ticked, keeps_for, Goes}
+use Rattle.console.proofs.Tables.{Table, look, is_position, outside}
+use Rattle.console.proofs.Keeping.{Rest, ready, erasing, spoilt, InBlocks, Keeps, keeps_ticked, keeps_for, Goes}
 
 -- the table with something new at p, if it was accepted
 abbrev pub put : ℕ → Option ℕ → Bool → Table → Table

@@ -26,10 +26,9 @@ use Rattle.console.specs.Desks.{Desk, opened, moved}
 use Rattle.console.specs.Faults.{no_place, reported, Refuses}
 use Rattle.console.specs.Looking.{searched, filled_at, or_else, shows, shown, finds, found, Looks, Recalls, Nexts}
 use Rattle.console.specs.Calls.{Replies}
-use Rattle.console.specs.Showing.{Reports}
-use Rattle.rehearsal.specs.Promises.{OnlyLooks}
-use Rattle.rehearsal.proofs.Tables.{Table, look, after, filled, or_then, nearest, is_position, tells}
-use Rattle.rehearsal.proofs.Keeping.{Rest, ready, erasing, spoilt, Keeps, Goes, keeps_ticked, keeps_for}
+use Rattle.console.specs.Showing.{OnlyLooks, Reports}
+use Rattle.console.proofs.Tables.{Table, look, after, filled, or_then, nearest, is_position, tells}
+use Rattle.console.proofs.Keeping.{Rest, ready, erasing, spoilt, Keeps, Goes, keeps_ticked, keeps_for}
 
 -- What a look at a part finds: each page of the current book as it stands, in at most 15 microseconds.
 record Glimpse (m : Meaning) (c : Pair) (held n : Meaning) : Type 0 where
@@ -81,7 +80,7 @@ glimpse m c held n l s (erasing left i f) h g = glimpse_held m c held n left s i
 glimpse m c held n l s (spoilt i f w) h g = glimpse_idle m c held n l s i h g
 
 -- A look leaves the table as it is.
-after_look : (call : Call) → OnlyLooks call → (accepted : Bool) (f : Table) (p : ℕ) → after call accepted f p ≡ f p
+pub after_look : (call : Call) → OnlyLooks call → (accepted : Bool) (f : Table) (p : ℕ) → after call accepted f p ≡ f p
 after_look (Set q stops) x t f p = absurd x
 after_look (Clear q) x t f p = absurd x
 after_look (Recall q) x true f p = refl

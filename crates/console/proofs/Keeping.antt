@@ -12,9 +12,8 @@ use Rattle.fault.specs.declared.faults.ConsoleFault.{ConsoleFault}
 use Rattle.console.specs.declared.answers.Answer.{Answer}
 use Rattle.console.specs.declared.call.Call.{Call}
 use Rattle.console.specs.Desks.{Desk, opened}
-use Rattle.console.specs.Showing.{Prompt}
-use Rattle.rehearsal.specs.Promises.{OnlyLooks}
-use Rattle.rehearsal.proofs.Tables.{Table, look, after, tells}
+use Rattle.console.specs.Showing.{OnlyLooks, Prompt}
+use Rattle.console.proofs.Tables.{Table, look, after, tells}
 
 -- A part that meant o when its console was opened on blocks a and b means m, the books are c, and they hold what f says.
 pub record Keeps (o : Meaning) (a b : ℕ) (f : Table) (m : Meaning) (c : Pair) : Type 0 where
