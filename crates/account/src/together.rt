@@ -3,7 +3,7 @@ use array::{Array, Layout};
 use chip::{Chip, Setup};
 use console::{Call, Console};
 use geometry::BlockSet;
-use rehearsal::{Seats, rehearse};
+use rehearsal::{Row, Seats, rehearse};
 use script::Reply;
 use std::alloc::{AllocError, Global};
 use tc58::driven;
@@ -100,6 +100,15 @@ fn print_row(rt: &HostRuntime, call: &str, quick: Reply, slow: Reply) -> Result<
     Ok(())
 }
 
+// A row for each call.
+fn rows_of(heap: Global) -> Result<Vec<Row>, AllocError> {
+    let mut rows = Vec::with_capacity(heap, CALLS.len())?;
+    for call in CALLS.iter() {
+        rows.push(Row::of(*call))?;
+    }
+    Ok(rows)
+}
+
 // The rehearsal, with its account.
 pub fn run(rt: &HostRuntime) -> Result<(), Trouble> {
     let heap = rt.alloc();
@@ -113,25 +122,29 @@ pub fn run(rt: &HostRuntime) -> Result<(), Trouble> {
         first: 1,
         second: 2,
     };
-    let heard = rehearse(heap, &mut quick, &mut slow, on_array, on_chip, &CALLS)?;
+    let mut rows = rows_of(heap)?;
+    let opened = rehearse(
+        &mut quick,
+        &mut slow,
+        on_array,
+        on_chip,
+        rows.as_mut_slice(),
+    );
     println!(rt; "\nThe same calls on a console over an array and on one over a slow chip.")?;
     println!(rt; "  {:<26} | {:<37} | chip", "call", "array")?;
     print_row(
         rt,
         "open",
-        Reply::Opened(heard.quick.opening.reply),
-        Reply::Opened(heard.slow.opening.reply),
+        Reply::Opened(opened.quick.reply),
+        Reply::Opened(opened.slow.reply),
     )?;
-    for (call, (quick, slow)) in CALLS
-        .iter()
-        .zip(heard.quick.lines.iter().zip(heard.slow.lines.iter()))
-    {
-        let name = call_text(heap, *call)?;
+    for row in rows.iter() {
+        let name = call_text(heap, row.call)?;
         print_row(
             rt,
             name.as_str(),
-            Reply::Called(quick.reply),
-            Reply::Called(slow.reply),
+            Reply::Called(row.quick.reply),
+            Reply::Called(row.slow.reply),
         )?;
     }
     Ok(())

@@ -1,5 +1,6 @@
 -- The console's calls, put together from what their parts ensure.
-use Rattle.std.proofs.Common.{◌≡◌, ℕ, ◌-◌, Bool, true, false, cond, ◌&&◌, ◌||◌, leb, is_some, Some, None, Ok, Err, Option, Result, sym, refl, ap, ◌∙◌, subst, arith}
+use Rattle.std.proofs.Common.{◌≡◌, ℕ, Bool, true, false, cond, ◌&&◌, ◌||◌, leb, is_some, Some, None, Ok, Err, Option, Result, sym, refl, ap, ◌∙◌, subst, arith}
+use Rattle.std.specs.Prelude.{MatchResult}
 use Rattle.std.proofs.lemmas.Bool.{cond-true, cond-false, true≢false}
 use Rattle.fault.specs.declared.cause.Cause.{Cause}
 use Rattle.fault.specs.declared.cause.Cause.TheVariants.{OutOfTurn, TimeTooLong}
@@ -9,67 +10,71 @@ use Rattle.part.specs.Meaning.{Meaning}
 use Rattle.part.specs.Calls.{longest, answer, time_no, progress, after_pass}
 use Rattle.book.specs.declared.books.Books.{Books}
 use Rattle.book.specs.declared.page.Page.{Page}
+use Rattle.book.specs.declared.spot.Spot.{Spot}
 use Rattle.book.specs.Pages.{page_at}
 use Rattle.book.specs.Reading.{reading}
-use Rattle.book.specs.Burning.{stops_of}
 use Rattle.book.specs.Pairs.{Pair, spoilt_if}
 use Rattle.book.specs.Finding.{Opened}
 use Rattle.book.specs.Views.{pair_of, pair_in}
 use Rattle.fault.specs.declared.faults.ConsoleFault.{ConsoleFault}
 use Rattle.fault.specs.Raising.{console_fault}
-use Rattle.book.specs.declared.spot.Spot.{Spot}
-use Rattle.console.specs.declared.way.Way.{Way}
-use Rattle.console.specs.declared.answers.Recalled.{Recalled}
-use Rattle.console.specs.declared.answers.Found.{Found}
-use Rattle.console.specs.Desks.{books_of, desk, opened, moved}
-use Rattle.console.specs.Faults.{at_position, no_place, placed}
-use Rattle.console.specs.Waiting.{let_end, ends_worn, is_worn, pass_worn}
-use Rattle.console.specs.Checks.{Checked}
-use Rattle.console.specs.Storing.{store_no, way, Goes, Writes, Stored, reported, StoresIf, Stores}
-use Rattle.console.specs.Looking.{searched, Looks, recall_no, recalled, RecallsIf, Recalls, next_no, found, NextsIf, Nexts}
-use Rattle.console.specs.Calls.{desk_after, open_report, OpensOn, Opens, WaitsOn, Waits}
+use Rattle.console.specs.declared.answers.Said.TheVariants.{Done}
+use Rattle.console.specs.declared.answers.Answer.{Answer}
+use Rattle.console.specs.declared.storing.Way.{Way}
+use Rattle.console.specs.Desks.{Desk, books_of, desk, opened, moved}
+use Rattle.console.specs.Faults.{at_position, no_place, placed, reported, Refuses}
+use Rattle.console.specs.Waiting.{let_end, ends_worn, is_worn, pass_worn, WaitsOn, Waits}
+use Rattle.console.specs.Checks.{Checked, store_books}
+use Rattle.console.specs.Storing.{way, Goes, Writes, Stored, StoresOn, Stores}
+use Rattle.console.specs.Opening.{desk_after, open_report, OpensOn, Opens}
 
 -- What a check says by its answer.
-checked_err : (o : Option Cause) (b : Option Books) (p : ℕ) (f : ConsoleFault) → Checked o b p (Err f) → (cause : Cause) × (o ≡ Some cause) × (f ≡ no_place cause p)
-checked_err (Some cause) b p f e = (cause, refl, cc)
-checked_err None b p f e = absurd e
+checked_err : (q : Result Pair Cause) (p : ℕ) (f : ConsoleFault) → Checked q p (Err f) → (cause : Cause) × (q ≡ Err cause) × (f ≡ no_place cause p)
+checked_err (Err cause) p f e = (cause, refl, cc)
+checked_err (Ok b) p f e = absurd e
 
-checked_ok : (o : Option Cause) (b : Option Books) (p : ℕ) (s : Spot) → Checked o b p (Ok s) → (o ≡ None) × (b ≡ Some s.books) × (s.position ≡ p)
-checked_ok (Some cause) b p s e = let z : ◌≡◌ {A = ℕ} 0 1 = cc in absurd (omega arith)
-checked_ok None b p s e = (refl, e.0, e.1)
+checked_ok : (q : Result Pair Cause) (p : ℕ) (s : Spot) → Checked q p (Ok s) → (q ≡ Ok (pair_of s.books)) × (s.position ≡ p)
+checked_ok (Err cause) p s e = let z : ◌≡◌ {A = ℕ} 0 1 = cc in absurd (omega arith)
+checked_ok (Ok b) p s e = (ap Ok (sym e.0), e.1)
 
--- set and clear.
-pub stores_refused : (m : Meaning) (o : Option Books) (p : ℕ) (new : Option ℕ) (f : ConsoleFault) → Checked (store_no (books_of o) p new) o p (Err f)
-    → Stores (desk m o) p new (Err f) (desk m o)
-unfolding Stores
-stores_refused m o p new f e =
-    let c = checked_err (store_no (books_of o) p new) o p f e in
-    subst (λ (x : Option Cause). StoresIf x (desk m o) (books_of o) p new (Err f) (desk m o)) (sym c.1) (ap Err c.2, refl)
+-- A call that its check refuses, and one that is made on the books that it gives.
+pub refused_by : (check : Option Pair → Result Pair Cause) (Does : Pair → Type 0) (d : Desk) (o : Option Pair) (p : ℕ) (f : ConsoleFault)
+    (r : Result Answer ConsoleFault) → o ≡ d.books → Checked (check o) p (Err f) → r ≡ Err f
+    → MatchResult (check d.books) Does (λ cause. Refuses d (no_place cause p) r d)
+refused_by check Does d o p f r i x s =
+    let c = checked_err (check o) p f x in
+    subst (λ (q : Result Pair Cause). MatchResult q Does (λ cause. Refuses d (no_place cause p) r d)) (sym c.1 ∙ ap check i) (s ∙ ap Err c.2, refl)
+
+pub made_by : (check : Option Pair → Result Pair Cause) (Does : Pair → Type 0) (No : Cause → Type 0) (d : Desk) (o : Option Pair) (p : ℕ) (s : Spot)
+    → o ≡ d.books → Checked (check o) p (Ok s) → (s.position ≡ p → Does (pair_of s.books)) → MatchResult (check d.books) Does No
+made_by check Does No d o p s i x does =
+    let c = checked_ok (check o) p s x in
+    subst (λ (q : Result Pair Cause). MatchResult q Does No) (sym c.0 ∙ ap check i) (does c.1)
 
 -- what is reported of what the part answered
-pub reported_err : (us p : ℕ) (q : Result (Unit {0}) PartFault) (f : ConsoleFault) → placed p q ≡ Err f → Err f ≡ reported us p q
-reported_err us p (Ok u) f e = let z : ◌≡◌ {A = ℕ} 0 1 = cc in absurd (omega arith)
-reported_err us p (Err g) f e = let same : at_position p g ≡ f = cc in ap Err (sym same)
+pub reported_err : {X : Type 0} (p : ℕ) (says : X → Answer) (q : Result X PartFault) (f : ConsoleFault) → placed p q ≡ Err f → Err f ≡ reported p says q
+reported_err p says (Ok x) f e = let z : ◌≡◌ {A = ℕ} 0 1 = cc in absurd (omega arith)
+reported_err p says (Err g) f e = let same : at_position p g ≡ f = cc in ap Err (sym same)
 
-pub reported_ok : (us p : ℕ) (q : Result (Unit {0}) PartFault) (u : Unit {0}) → placed p q ≡ Ok u → Ok us ≡ reported us p q
-reported_ok us p (Ok u) v e = refl
-reported_ok us p (Err g) v e = let z : ◌≡◌ {A = ℕ} 0 1 = cc in absurd (omega arith)
+pub reported_ok : {X : Type 0} (p : ℕ) (says : X → Answer) (q : Result X PartFault) (x : X) → placed p q ≡ Ok x → Ok (says x) ≡ reported p says q
+reported_ok p says (Ok y) x e = let same : y ≡ x = cc in ap (λ (z : _). Ok (says z)) (sym same)
+reported_ok p says (Err g) x e = let z : ◌≡◌ {A = ℕ} 0 1 = cc in absurd (omega arith)
 
-pub stores_done : (m n : Meaning) (o : Option Books) (p us : ℕ) (new : Option ℕ) (s : Spot) (c : Books) (q : Result (Unit {0}) PartFault) (r : Result ℕ ConsoleFault)
-    → Checked (store_no (books_of o) p new) o p (Ok s) → Stored m (pair_of s.books) s.position new q n (pair_of c)
-    → us ≡ moved m n → r ≡ reported us p q → Stores (desk m o) p new r (desk n (Some c))
+-- set and clear, from what the storing did.
+pub stores_done : (d : Desk) (o : Option Books) (m n : Meaning) (p us : ℕ) (new : Option ℕ) (s : Spot) (c : Books) (q : Result (Unit {0}) PartFault)
+    (r : Result Answer ConsoleFault) → desk m o ≡ d → Checked (store_books (books_of o) p new) p (Ok s)
+    → Stored m (pair_of s.books) s.position new q n (pair_of c) → us ≡ moved m n → r ≡ reported p (λ _. record { said = Done; us = us }) q
+    → Stores d p new r (desk n (Some c))
 unfolding Stores
-stores_done m n o p us new s c q r e x t d =
-    let k = checked_ok (store_no (books_of o) p new) o p s e in
-    subst (λ (y : Option Cause). StoresIf y (desk m o) (books_of o) p new r (desk n (Some c))) (sym k.0)
-    (subst (λ (y : Option Pair). StoresIf None (desk m o) y p new r (desk n (Some c))) (sym (ap books_of k.1))
-    (record {
+stores_done d o m n p us new s c q r i x y t w =
+    subst (λ (k : Desk). MatchResult (store_books k.books p new) (λ b. StoresOn k b p new r (desk n (Some c))) (λ cause. Refuses k (no_place cause p) r (desk n (Some c)))) i
+    (made_by (λ b. store_books b p new) (λ b. StoresOn (desk m o) b p new r (desk n (Some c))) _ (desk m o) (books_of o) p s refl x
+    (λ at. record {
       answer = q;
-      part = n;
       books = pair_of c;
-      stored = subst (λ (i : ℕ). Stored m (pair_of s.books) i new q n (pair_of c)) k.2 x;
-      says = d ∙ ap (λ (u : ℕ). reported u p q) t;
+      stored = subst (λ (i : ℕ). Stored m (pair_of s.books) i new q n (pair_of c)) at y;
       leaves = refl;
+      says = w ∙ ap (λ (u : ℕ). reported p (λ _. record { said = Done; us = u }) q) t;
     }))
 
 -- The page is read once the erasure has ended.
@@ -92,74 +97,6 @@ store_gone m k h n b c z p new page v r w i j d e l t x =
     (subst (λ (y : Pair). Goes (way page new y.spoilt) (let_end m) y p page new r n z) s
     (subst (λ (y : Meaning). Goes (way page new c.spoilt) y c p page new r n z) (l ∙ i)
     (subst (λ (y : Way). Goes y h c p page new r n z) t x)))
-
--- recall and next.
-pub recalls_refused : (m : Meaning) (o : Option Books) (p : ℕ) (f : ConsoleFault) → Checked (recall_no (books_of o) p) o p (Err f)
-    → Recalls (desk m o) p (Err f) (desk m o)
-unfolding Recalls
-recalls_refused m o p f e =
-    let c = checked_err (recall_no (books_of o) p) o p f e in
-    subst (λ (x : Option Cause). RecallsIf x (desk m o) (books_of o) p (Err f) (desk m o)) (sym c.1) (ap Err c.2, refl)
-
-pub recalled_err : (us p : ℕ) (q : Result (Option ℕ) PartFault) (f : ConsoleFault) → placed p q ≡ Err f → Err f ≡ recalled us p q
-recalled_err us p (Ok u) f e = let z : ◌≡◌ {A = ℕ} 0 1 = cc in absurd (omega arith)
-recalled_err us p (Err g) f e = let same : at_position p g ≡ f = cc in ap Err (sym same)
-
-pub recalled_ok : (us p : ℕ) (q : Result (Option ℕ) PartFault) (x : Option ℕ) → placed p q ≡ Ok x → Ok (record { stops = x; us = us }) ≡ recalled us p q
-recalled_ok us p (Ok u) x e =
-    let same : u ≡ x = cc in
-    ap (λ (o : Option ℕ). Ok (record { stops = o; us = us })) (sym same)
-recalled_ok us p (Err g) x e = let z : ◌≡◌ {A = ℕ} 0 1 = cc in absurd (omega arith)
-
-pub recalls_done : (m n : Meaning) (o : Option Books) (p us : ℕ) (s : Spot) (q : Result (Option ℕ) PartFault) (r : Result Recalled ConsoleFault)
-    → Checked (recall_no (books_of o) p) o p (Ok s) → Looks m (λ held. stops_of (reading held (page_at (pair_of s.books).current.start s.position))) q n
-    → us ≡ moved m n → r ≡ recalled us p q → Recalls (desk m o) p r (desk n o)
-unfolding Recalls
-recalls_done m n o p us s q r e x t d =
-    let k = checked_ok (recall_no (books_of o) p) o p s e in
-    subst (λ (y : Option Cause). RecallsIf y (desk m o) (books_of o) p r (desk n o)) (sym k.0)
-    (subst (λ (y : Option Pair). RecallsIf None (desk m o) y p r (desk n o)) (sym (ap books_of k.1))
-    (record {
-      seen = q;
-      part = n;
-      looks = subst (λ (i : ℕ). Looks m (λ held. stops_of (reading held (page_at (pair_of s.books).current.start i))) q n) k.2 x;
-      says = d ∙ ap (λ (u : ℕ). recalled u p q) t;
-      leaves = ap (desk n) k.1;
-    }))
-
-pub nexts_refused : (m : Meaning) (o : Option Books) (p : ℕ) (f : ConsoleFault) → Checked (next_no (books_of o) p) o p (Err f)
-    → Nexts (desk m o) p (Err f) (desk m o)
-unfolding Nexts
-nexts_refused m o p f e =
-    let c = checked_err (next_no (books_of o) p) o p f e in
-    subst (λ (x : Option Cause). NextsIf x (desk m o) (books_of o) p (Err f) (desk m o)) (sym c.1) (ap Err c.2, refl)
-
-pub found_err : (us p : ℕ) (q : Result (Option ℕ) PartFault) (f : ConsoleFault) → placed p q ≡ Err f → Err f ≡ found us p q
-found_err us p (Ok u) f e = let z : ◌≡◌ {A = ℕ} 0 1 = cc in absurd (omega arith)
-found_err us p (Err g) f e = let same : at_position p g ≡ f = cc in ap Err (sym same)
-
-pub found_ok : (us p : ℕ) (q : Result (Option ℕ) PartFault) (x : Option ℕ) → placed p q ≡ Ok x → Ok (record { position = x; us = us }) ≡ found us p q
-found_ok us p (Ok u) x e =
-    let same : u ≡ x = cc in
-    ap (λ (o : Option ℕ). Ok (record { position = o; us = us })) (sym same)
-found_ok us p (Err g) x e = let z : ◌≡◌ {A = ℕ} 0 1 = cc in absurd (omega arith)
-
-pub nexts_done : (m n : Meaning) (o : Option Books) (p us : ℕ) (s : Spot) (q : Result (Option ℕ) PartFault) (r : Result Found ConsoleFault)
-    → Checked (next_no (books_of o) p) o p (Ok s)
-    → Looks m (λ held. searched held (pair_of s.books).current.start s.position ((pair_of s.books).positions - s.position)) q n
-    → us ≡ moved m n → r ≡ found us p q → Nexts (desk m o) p r (desk n o)
-unfolding Nexts
-nexts_done m n o p us s q r e x t d =
-    let k = checked_ok (next_no (books_of o) p) o p s e in
-    subst (λ (y : Option Cause). NextsIf y (desk m o) (books_of o) p r (desk n o)) (sym k.0)
-    (subst (λ (y : Option Pair). NextsIf None (desk m o) y p r (desk n o)) (sym (ap books_of k.1))
-    (record {
-      seen = q;
-      part = n;
-      looks = subst (λ (i : ℕ). Looks m (λ held. searched held (pair_of s.books).current.start i ((pair_of s.books).positions - i)) q n) k.2 x;
-      says = d ∙ ap (λ (u : ℕ). found u p q) t;
-      leaves = ap (desk n) k.1;
-    }))
 
 -- open.
 none_is : (o : Option Books) → is_some o ≡ false → o ≡ None
@@ -195,7 +132,7 @@ time_not : (t : Bool) (n : ℕ) (p : Progress) (f : PartFault) → answer (cond 
 time_not true n p f e = let z : ◌≡◌ {A = ℕ} 0 1 = cc in absurd (omega arith)
 time_not false n p f e = (refl, cc)
 
-pub waits_refused : (m k : Meaning) (o : Option Books) (b : Books) (n : ℕ) (f : PartFault) (r : Result ℕ ConsoleFault) → o ≡ Some b
+pub waits_refused : (m k : Meaning) (o : Option Books) (b : Books) (n : ℕ) (f : PartFault) (r : Result Answer ConsoleFault) → o ≡ Some b
     → answer (time_no n) n (progress m n m.erasure) ≡ Err f → k ≡ after_pass m n → r ≡ Err (console_fault f) → Waits (desk m o) n r (desk k o)
 unfolding Waits
 waits_refused m k o b n f r e a s d =
@@ -216,12 +153,12 @@ waits_refused m k o b n f r e a s d =
 
 pub waits_done : (m k : Meaning) (o : Option Books) (b c : Books) (n us : ℕ) (q : Progress) (w : Bool) → o ≡ Some b
     → answer (time_no n) n (progress m n m.erasure) ≡ Ok q → k ≡ after_pass m n → w ≡ is_worn q → pair_of c ≡ spoilt_if w (pair_of b) → us ≡ moved m k
-    → Waits (desk m o) n (Ok us) (desk k (Some c))
+    → Waits (desk m o) n (Ok (record { said = Done; us = us })) (desk k (Some c))
 unfolding Waits
 waits_done m k o b c n us q w e a s j d t =
     let p = pass_by (leb n longest) n (progress m n m.erasure) q a in
     let worn : w ≡ pass_worn m n = j ∙ ap is_worn p.1 ∙ ap (λ (x : Bool). x && is_worn (progress m n m.erasure)) (sym p.0) in
-    subst (λ (x : Option Books). WaitsOn (books_of x) (desk m o) n (Ok us) (desk k (Some c))) (sym e) (
-      ap Ok (t ∙ ap (moved m) s) ∙ sym (cond-true (leb n longest) _ _ p.0),
+    subst (λ (x : Option Books). WaitsOn (books_of x) (desk m o) n (Ok (record { said = Done; us = us })) (desk k (Some c))) (sym e) (
+      ap (λ (u : ℕ). Ok (record { said = Done; us = u })) (t ∙ ap (moved m) s) ∙ sym (cond-true (leb n longest) _ _ p.0),
       ap (λ (x : Meaning). opened x (pair_of c)) s ∙ ap (opened (after_pass m n)) (d ∙ ap (λ (x : Bool). spoilt_if x (pair_of b)) worn),
     )

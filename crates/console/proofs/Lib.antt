@@ -2,3 +2,11 @@ pub mod Ending
 pub mod Calling
 pub mod Seeking
 pub mod Ways
+pub mod Tables
+pub mod Keeping
+pub mod Stores
+pub mod Looks
+pub mod Waits
+pub mod Telling
+pub mod Going
+pub mod LawsOfShowing

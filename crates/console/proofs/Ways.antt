@@ -1,5 +1,5 @@
 -- The four ways in which a page takes new stops, each with what makes it the way.
-use Rattle.std.proofs.Common.{◌≡◌, ℕ, ◌<◌, true, false, cond, ◌&&◌, ltb, Ok, Err, Option, Result, subst, inl, inr}
+use Rattle.std.proofs.Common.{◌≡◌, ℕ, ◌<◌, true, false, cond, ◌&&◌, ltb, Ok, Err, Option, Result, is_none, subst, inl, inr}
 use Rattle.std.proofs.lemmas.Bool.{cases_Bool, ltb-true, cond-true, cond-false}
 use Rattle.fault.specs.declared.cause.Cause.TheVariants.{SpareSpoilt}
 use Rattle.fault.specs.declared.faults.PartFault.{PartFault}
@@ -8,9 +8,9 @@ use Rattle.book.specs.declared.page.Page.{Page}
 use Rattle.book.specs.Pages.{page_at, used}
 use Rattle.book.specs.Burning.{Ran, line_added}
 use Rattle.book.specs.Pairs.{Pair}
-use Rattle.console.specs.declared.way.Way.{Way}
-use Rattle.console.specs.declared.way.Way.TheVariants.{Nothing, Line, Change, Spoilt}
-use Rattle.console.specs.Storing.{is_none, way, Changes, Goes}
+use Rattle.console.specs.declared.storing.Way.{Way}
+use Rattle.console.specs.declared.storing.Way.TheVariants.{Nothing, Line, Change, Spoilt}
+use Rattle.console.specs.Storing.{way, Changes, Goes}
 
 pub data Went (m : Meaning) (b : Pair) (p : ℕ) (page : Page) (new : Option ℕ) (r : Result (Unit {0}) PartFault) (n : Meaning) (c : Pair) : Type 0 where
   empty : (is_none page.stops && is_none new) ≡ true → r ≡ Ok tt → n ≡ m → c ≡ b → Went m b p page new r n c

@@ -1,7 +1,10 @@
 pub mod Desks
+pub mod Showing
 pub mod Faults
+pub mod Checks
+pub mod Opening
 pub mod Waiting
 pub mod Storing
 pub mod Looking
 pub mod Calls
-pub mod Checks
+pub mod Laws

@@ -1,7 +1,6 @@
 -- set and clear. Both store at a position: set some stops, and clear none.
-use Rattle.std.specs.Prelude.{◌≡◌, ℕ, Bool, true, false, cond, ◌&&◌, Some, None, Ok, Err, Option, Result, nat_le, nat_lt}
-use Rattle.fault.specs.declared.cause.Cause.{Cause}
-use Rattle.fault.specs.declared.cause.Cause.TheVariants.{OutOfTurn, PositionOutside, StopOutside, SpareSpoilt}
+use Rattle.std.specs.Prelude.{◌≡◌, ℕ, Bool, ◌&&◌, if◌then◌else◌, Ok, Err, Option, Result, MatchResult, is_none, nat_lt}
+use Rattle.fault.specs.declared.cause.Cause.TheVariants.{SpareSpoilt}
 use Rattle.fault.specs.declared.faults.PartFault.{PartFault}
 use Rattle.part.specs.Meaning.{Meaning}
 use Rattle.part.specs.Calls.{answer, begin_no, Begun}
@@ -11,23 +10,22 @@ use Rattle.book.specs.Reading.{reading}
 use Rattle.book.specs.Burning.{Ran, line_added, will_hold, book_copied}
 use Rattle.book.specs.Pairs.{Pair, changed, spoilt_if}
 use Rattle.fault.specs.declared.faults.ConsoleFault.{ConsoleFault}
-use Rattle.console.specs.declared.way.Way.{Way}
-use Rattle.console.specs.declared.way.Way.TheVariants.{Nothing, Line, Change, Spoilt}
+use Rattle.console.specs.declared.answers.Said.TheVariants.{Done}
+use Rattle.console.specs.declared.answers.Answer.{Answer}
+use Rattle.console.specs.declared.storing.Way.{Way}
+use Rattle.console.specs.declared.storing.Way.TheVariants.{Nothing, Line, Change, Spoilt}
 use Rattle.console.specs.Desks.{Desk, opened, moved}
-use Rattle.console.specs.Faults.{at_position, no_place}
+use Rattle.console.specs.Faults.{no_place, reported, Refuses}
+use Rattle.console.specs.Checks.{store_books}
 use Rattle.console.specs.Waiting.{let_end, ends_worn}
-
-abbrev pub is_none : Option ℕ → Bool
-is_none None = true
-is_none (Some x) = false
 
 -- How a page takes new stops: an empty one that is cleared needs nothing; one with a free line takes that; for another the
 -- books change, unless the other book is spoilt.
 abbrev pub way : Page → Option ℕ → Bool → Way
 way page new spoilt =
-    cond (is_none page.stops && is_none new) Nothing
-    (cond (nat_lt (used page.tally) 7) Line
-    (cond spoilt Spoilt Change))
+    if is_none page.stops && is_none new then Nothing else
+    if nat_lt (used page.tally) 7 then Line else
+    if spoilt then Spoilt else Change
 
 -- after the copying: the other book is current, and the erasure of the old one begins
 abbrev pub Turned : Result (Unit {0}) PartFault → Meaning → Pair → Result (Unit {0}) PartFault → Meaning → Pair → Type 0
@@ -58,39 +56,15 @@ unfoldable pub Stored : Meaning → Pair → ℕ → Option ℕ → Result (Unit
 Stored m b p new r n c =
     Writes (reading (let_end m) (page_at b.current.start p)) (let_end m) (spoilt_if (ends_worn m) b) p new r n c
 
--- a position from 1 to the last
-abbrev pub is_position : Pair → ℕ → Bool
-is_position b p = nat_le 1 p && nat_le p b.positions
-
--- 63 stops: bit 63 is 0
-abbrev pub fits : Option ℕ → Bool
-fits None = true
-fits (Some stops) = nat_lt stops 9223372036854775808
-
--- what is refused before anything is touched
-abbrev pub store_no : Option Pair → ℕ → Option ℕ → Option Cause
-store_no None p new = Some OutOfTurn
-store_no (Some b) p new =
-    cond (is_position b p) (cond (fits new) None (Some StopOutside)) (Some PositionOutside)
-
--- the microseconds that it took, or the fault with its position
-abbrev pub reported : ℕ → ℕ → Result (Unit {0}) PartFault → Result ℕ ConsoleFault
-reported us p (Ok u) = Ok us
-reported us p (Err f) = Err (at_position p f)
-
-pub record StoresOpen (m : Meaning) (b : Pair) (p : ℕ) (new : Option ℕ) (r : Result ℕ ConsoleFault) (e : Desk) : Type 0 where
+-- what stores at position p of open books did, and what it reports
+pub record StoresOn (d : Desk) (b : Pair) (p : ℕ) (new : Option ℕ) (r : Result Answer ConsoleFault) (e : Desk) : Type 0 where
   pub answer : Result (Unit {0}) PartFault
-  pub part : Meaning
   pub books : Pair
-  pub stored : Stored m b p new answer part books
-  pub says : r ≡ reported (moved m part) p answer
-  pub leaves : e ≡ opened part books
-
-abbrev pub StoresIf : Option Cause → Desk → Option Pair → ℕ → Option ℕ → Result ℕ ConsoleFault → Desk → Type 0
-StoresIf (Some cause) d o p new r e = (r ≡ Err (no_place cause p)) × (e ≡ d)
-StoresIf None d None p new r e = ⊥
-StoresIf None d (Some b) p new r e = StoresOpen d.part b p new r e
+  pub stored : Stored d.part b p new answer e.part books
+  pub leaves : e ≡ opened e.part books
+  pub says : r ≡ reported p (λ _. record { said = Done; us = moved d.part e.part }) answer
 
 -- set with some stops, clear with none
-unfoldable pub Stores : Desk → ℕ → Option ℕ → Result ℕ ConsoleFault → Desk → Type 0
-Stores d p new r e = StoresIf (store_no d.books p new) d d.books p new r e
+unfoldable pub Stores : Desk → ℕ → Option ℕ → Result Answer ConsoleFault → Desk → Type 0
+Stores d p new r e =
+    MatchResult (store_books d.books p new) (λ b. StoresOn d b p new r e) (λ cause. Refuses d (no_place cause p) r e)

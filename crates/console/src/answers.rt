@@ -1,31 +1,13 @@
 // What the console answers.
 
-/// What recall shows.
-#[derive(Clone, Copy, Debug, PartialEq, Eq)]
-pub struct Recalled {
-    /// The stops; none where the position is empty.
-    pub stops: Option<u64>,
-    /// The microseconds that it took.
-    pub us: u32,
-}
-
-/// What next finds.
-#[derive(Clone, Copy, Debug, PartialEq, Eq)]
-pub struct Found {
-    /// The nearest filled position, if there is one.
-    pub position: Option<u32>,
-    /// The microseconds that it took.
-    pub us: u32,
-}
-
-/// What an accepted call says, but for the microseconds.
+/// What an accepted call says.
 #[derive(Clone, Copy, Debug, PartialEq, Eq)]
 pub enum Said {
     /// set, clear and wait.
     Done,
-    /// recall.
+    /// recall: the stops, or none where the position is empty.
     Shows(Option<u64>),
-    /// next.
+    /// next: the nearest filled position, if there is one.
     Finds(Option<u32>),
 }
 

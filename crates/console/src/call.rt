@@ -1,3 +1,11 @@
+// The calls of a list as one.
+ghost use Rattle.console.specs.Calls.{Replies};
+
+use crate::answers::Answer;
+use crate::console::Console;
+use fault::ConsoleFault;
+use part::Part;
+
 /// The calls that a list may have.
 #[derive(Clone, Copy, Debug, PartialEq, Eq)]
 pub enum Call {
@@ -6,4 +14,19 @@ pub enum Call {
     Recall { position: u32 },
     Next { position: u32 },
     Wait { us: u32 },
+}
+
+impl<P: Part + Drop> Console<P> {
+    /// Makes one call of a list.
+    pub fn perform(&mut self, call: Call) -> Result<Answer, ConsoleFault>
+        ensures { Replies self.old call result self.new }
+    {
+        match call {
+            Call::Set { position, stops } => self.set(position, stops),
+            Call::Clear { position } => self.clear(position),
+            Call::Recall { position } => self.recall(position),
+            Call::Next { position } => self.next(position),
+            Call::Wait { us } => self.wait(us),
+        }
+    }
 }

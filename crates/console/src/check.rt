@@ -1,8 +1,6 @@
 // The checks that run before anything is touched.
 ghost use Rattle.console.specs.Desks.{books_of};
-ghost use Rattle.console.specs.Storing.{store_no};
-ghost use Rattle.console.specs.Looking.{recall_no, next_no};
-ghost use Rattle.console.specs.Checks.{Checked};
+ghost use Rattle.console.specs.Checks.{store_books, recall_books, next_books, Checked};
 
 use crate::faults::refused;
 use book::{Books, STOPS, Spot};
@@ -10,7 +8,7 @@ use fault::{Cause, ConsoleFault};
 
 // Where recall looks, or why it is refused.
 pub(crate) fn recall_spot(books: Option<Books>, position: u32) -> Result<Spot, ConsoleFault>
-    ensures { Checked (recall_no (books_of books) position) books position result }
+    ensures { Checked (recall_books (books_of books) position) position result }
 {
     let books = books.ok_or(refused(Cause::OutOfTurn, position))?;
     if (1..=u32::from(books.positions)).contains(&position) {
@@ -25,7 +23,7 @@ pub(crate) fn recall_spot(books: Option<Books>, position: u32) -> Result<Spot, C
 
 // After which position next looks, or why it is refused.
 pub(crate) fn next_spot(books: Option<Books>, position: u32) -> Result<Spot, ConsoleFault>
-    ensures { Checked (next_no (books_of books) position) books position result }
+    ensures { Checked (next_books (books_of books) position) position result }
 {
     let books = books.ok_or(refused(Cause::OutOfTurn, position))?;
     if position <= u32::from(books.positions) {
@@ -44,7 +42,7 @@ pub(crate) fn store_spot(
     position: u32,
     new: Option<u64>,
 ) -> Result<Spot, ConsoleFault>
-    ensures { Checked (store_no (books_of books) position new) books position result }
+    ensures { Checked (store_books (books_of books) position new) position result }
 {
     let spot = recall_spot(books, position)?;
     match new {

@@ -1,6 +1,6 @@
 // Worked examples of a console on the bench chip, whose books are blocks 1 and 2: what the calls leave in the cells.
 use chip::{Chip, Setup};
-use console::Console;
+use console::{Console, Said};
 use part::{Part, Standing, Turn};
 use tc58::{DrivenChip, driven};
 use workbench::Trouble;
@@ -71,14 +71,14 @@ pub fn eight_sets(rt: &HostRuntime, setup: Setup) -> Result<(), Trouble> {
 pub fn last_position(rt: &HostRuntime, setup: Setup) -> Result<(), Trouble> {
     let mut console = opened(rt, setup)?;
     console.set(7, 0x7FFF_FFFF_FFFF_FFFF)?;
-    let verdict = match console.recall(7)?.stops {
-        Some(0x7FFF_FFFF_FFFF_FFFF) => "as it should be",
+    let verdict = match console.recall(7)?.said {
+        Said::Shows(Some(0x7FFF_FFFF_FFFF_FFFF)) => "as it should be",
         _ => "WRONG",
     };
     println!(rt; "position 7, 63 stops drawn: accepted, {verdict}")?;
-    let verdict = match console.next(7)?.position {
-        None => "none, as it should be",
-        Some(_) => "WRONG",
+    let verdict = match console.next(7)?.said {
+        Said::Finds(None) => "none, as it should be",
+        _ => "WRONG",
     };
     println!(rt; "next 7: {verdict}")?;
     Ok(())

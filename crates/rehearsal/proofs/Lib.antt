@@ -1,9 +1,5 @@
 pub mod Tables
-pub mod Keeping
 pub mod Playing
-pub mod Storing
 pub mod Listing
-pub mod Looks
-pub mod Waits
 pub mod Promised
 pub mod Worked

@@ -1,29 +1,30 @@
 -- What an account says of the positions, call by call, and that the table of the positions says the same.
-use Rattle.std.proofs.Common.{◌≡◌, ℕ, zero, suc, ◌+◌, ◌-◌, ◌<◌, ◌≤◌, Bool, true, false, eqb, leb, ltb, List, [], ◌∷◌, take, Some, None, Ok, Err, Option, Result, slice_get, is_ok, sym, refl, ap, ◌∙◌, subst, inl, inr, arith}
+use Rattle.std.proofs.Common.{◌≡◌, ℕ, zero, suc, ◌<◌, Bool, true, false, eqb, leb, ltb, List, [], ◌∷◌, take, Some, None, Ok, Err, Option, Result, slice_get, is_ok, sym, refl, ap, ◌∙◌, subst, inl, inr, arith}
 use Rattle.std.proofs.lemmas.Bool.{cases_Bool, cases_lt, cond-true, cond-false, eqb-true, eqb-false, le-leb, and_from}
 use Rattle.part.specs.Calls.{longest}
 use Rattle.fault.specs.declared.faults.ConsoleFault.{ConsoleFault}
 use Rattle.console.specs.declared.answers.Answer.{Answer}
-use Rattle.console.specs.declared.answers.Said.{Said}
-use Rattle.console.specs.declared.answers.Said.TheVariants.{Shows, Finds}
 use Rattle.console.specs.declared.call.Call.{Call}
 use Rattle.console.specs.declared.call.Call.TheVariants.{Set, Clear, Recall, Next, Wait}
 use Rattle.console.specs.Desks.{Desk}
 use Rattle.console.specs.Calls.{Replies}
 use Rattle.rehearsal.specs.declared.line.Line.{Line}
-use Rattle.rehearsal.specs.Accounts.{Accepted, LastSet, Emptied, Holds}
-use Rattle.rehearsal.specs.Promises.{said, Nearest, ShowsLast, FindsNearest, OnlyLooks, Kept, Same, Alike, Proper, Accepts}
-use Rattle.rehearsal.proofs.Tables.{Table, nothing, look, write, after, filled, or_then, nearest, is_position, tells, Looked, Told, Sure, end, then}
+use Rattle.rehearsal.specs.Accounts.{Accepted, LastSet, LastClear, Untouched, Emptied, Past, first_calls, Holds, as_set, cleared, as_opened, HoldsFromBlank, BlankCase}
+use Rattle.console.specs.Showing.{OnlyLooks, Prompt}
+use Rattle.rehearsal.specs.Promises.{Kept, Same, Alike, Proper, Accepts}
+use Rattle.console.proofs.Tables.{Table, look, write, after, is_position, tells}
+use Rattle.console.proofs.Telling.{shows_held, finds_nearest}
+use Rattle.rehearsal.proofs.Tables.{Looked, Told, Sure, end, then}
 
 -- 0 is not 1, which ends a clash of constructors.
 no_one : ◌≡◌ {A = ℕ} 0 1 → ⊥
 no_one e = omega arith
 
 -- The last accepted write at p, in a list: none, a set, or a clear. v is what p held before the list, and w after it.
-data Last (calls : List Call) (log : List Line) (p : ℕ) (v w : Option ℕ) : Type 0 where
-  untouched : ((j s : ℕ) → Accepted calls log j (Set p s) → ⊥) → ((j : ℕ) → Accepted calls log j (Clear p) → ⊥) → w ≡ v → Last calls log p v w
+pub data Last (calls : List Call) (log : List Line) (p : ℕ) (v w : Option ℕ) : Type 0 where
+  untouched : Untouched calls log p → w ≡ v → Last calls log p v w
   set_last : (s : ℕ) → LastSet calls log p s → w ≡ Some s → Last calls log p v w
-  cleared_last : (i : ℕ) → Accepted calls log i (Clear p) → ((j s : ℕ) → i < j → Accepted calls log j (Set p s) → ⊥) → w ≡ None → Last calls log p v w
+  cleared_last : LastClear calls log p → w ≡ None → Last calls log p v w
 
 -- The same of one call: yes says whether it was accepted.
 data First (c : Call) (yes : Bool) (p : ℕ) (v w : Option ℕ) : Type 0 where
@@ -102,19 +103,30 @@ last_more c cs l ls p v u w x (set_last s r e) =
       no_set = λ j t. none_later c (Set p t) cs l ls r.when (λ k. r.no_set k t) j;
       no_clear = none_later c (Clear p) cs l ls r.when r.no_clear;
     }) e
-last_more c cs l ls p v u w x (cleared_last i a n e) =
-    cleared_last (suc i) (to_rest c (Clear p) cs l ls i a) (λ j t. none_later c (Set p t) cs l ls i (λ k. n k t) j) e
-last_more c cs l ls p v u w (leaves x y d) (untouched m n e) =
-    untouched (λ j t. none_at_all c (Set p t) cs l ls (x t) (λ k. m k t) j) (none_at_all c (Clear p) cs l ls y n) (e ∙ d)
-last_more c cs l ls p v u w (sets s x y d) (untouched m n e) =
+last_more c cs l ls p v u w x (cleared_last r e) =
+    cleared_last (record {
+      when = suc r.when;
+      was = to_rest c (Clear p) cs l ls r.when r.was;
+      no_set = λ j t. none_later c (Set p t) cs l ls r.when (λ k. r.no_set k t) j;
+    }) e
+last_more c cs l ls p v u w (leaves x y d) (untouched m e) =
+    untouched (record {
+      no_set = λ j t. none_at_all c (Set p t) cs l ls (x t) (λ k. m.no_set k t) j;
+      no_clear = none_at_all c (Clear p) cs l ls y m.no_clear;
+    }) (e ∙ d)
+last_more c cs l ls p v u w (sets s x y d) (untouched m e) =
     set_last s (record {
       when = 0;
       was = to_first c (Set p s) cs l ls x y;
-      no_set = λ j t. none_after c (Set p t) cs l ls (λ k. m k t) j;
-      no_clear = none_after c (Clear p) cs l ls n;
+      no_set = λ j t. none_after c (Set p t) cs l ls (λ k. m.no_set k t) j;
+      no_clear = none_after c (Clear p) cs l ls m.no_clear;
     }) (e ∙ d)
-last_more c cs l ls p v u w (clears x y d) (untouched m n e) =
-    cleared_last 0 (to_first c (Clear p) cs l ls x y) (λ j t. none_after c (Set p t) cs l ls (λ k. m k t) j) (e ∙ d)
+last_more c cs l ls p v u w (clears x y d) (untouched m e) =
+    cleared_last (record {
+      when = 0;
+      was = to_first c (Clear p) cs l ls x y;
+      no_set = λ j t. none_after c (Set p t) cs l ls (λ k. m.no_set k t) j;
+    }) (e ∙ d)
 
 -- An empty list has no accepted call.
 none_of_none : (i : ℕ) (d : Call) → Accepted [] [] i d → ⊥
@@ -124,60 +136,42 @@ none_of_none i d a =
 
 -- The last write at p, by the account of a list.
 last : {n : ℕ} {f g : Table} {calls : List Call} {log : List Line} → Told n f calls log g → (p : ℕ) → Last calls log p (f p) (g p)
-last (end f) p = untouched (λ j s. none_of_none j (Set p s)) (λ j. none_of_none j (Clear p)) refl
+last (end f) p = untouched (record { no_set = λ j s. none_of_none j (Set p s); no_clear = λ j. none_of_none j (Clear p) }) refl
 last {g = g} (then {f = f} {c = c} {cs = cs} {l = l} {ls = ls} x t) p =
     last_more c cs l ls p (f p) (after c (is_ok l.reply) f p) (g p) (first c (is_ok l.reply) f p) (last t p)
 
--- What holds at p, by the last write there.
-holds_by : (calls : List Call) (log : List Line) (p : ℕ) (w : Option ℕ) → Last calls log p None w → Holds calls log p w
-holds_by calls log p w (untouched m n e) = subst (Holds calls log p) (sym e) (λ i s a. absurd (m i s a))
-holds_by calls log p w (set_last s r e) = subst (Holds calls log p) (sym e) r
-holds_by calls log p w (cleared_last i a n e) = subst (Holds calls log p) (sym e) to
+-- What a position holds, by the last write there.
+pub holds : (past : Past) (p : ℕ) (w : Option ℕ) → Last past.calls past.lines p (past.showed p) w → Holds past p w
+holds past p w (untouched m e) = as_opened m e
+holds past p w (set_last s r e) = as_set s r e
+holds past p w (cleared_last r e) = cleared r e
+
+-- The same where it showed nothing before.
+pub holds_from_blank : (past : Past) (p : ℕ) (w : Option ℕ) → Last past.calls past.lines p None w → HoldsFromBlank past p w
+holds_from_blank past p w (untouched m e) = subst (HoldsFromBlank past p) (sym e) (λ i s a. absurd (m.no_set i s a))
+holds_from_blank past p w (set_last s r e) = subst (HoldsFromBlank past p) (sym e) r
+holds_from_blank past p w (cleared_last r e) = subst (HoldsFromBlank past p) (sym e) to
   where
-    not_both : (j s : ℕ) → j ≡ i → Accepted calls log j (Set p s) → ⊥
+    not_both : (j s : ℕ) → j ≡ r.when → Accepted past.calls past.lines j (Set p s) → ⊥
     not_both j s q b =
-        let x : slice_get calls i ≡ Some (Clear p) = a.call in
-        let y : slice_get calls i ≡ Some (Set p s) = subst (λ (k : ℕ). slice_get calls k ≡ Some (Set p s)) q b.call in
+        let x : slice_get past.calls r.when ≡ Some (Clear p) = r.was.call in
+        let y : slice_get past.calls r.when ≡ Some (Set p s) = subst (λ (k : ℕ). slice_get past.calls k ≡ Some (Set p s)) q b.call in
         absurd (no_one cc)
 
-    to : Emptied calls log p
+    to : Emptied past.calls past.lines p
     to j s b =
-        elim (cases_lt j i) [
-          | inl h ↦ (i, h, a)
-          | inr h ↦ elim (cases_lt i j) [
-            | inl k ↦ absurd (n j s k b)
-            | inr k ↦ let q : j ≡ i = omega arith in absurd (not_both j s q b)
+        elim (cases_lt j r.when) [
+          | inl h ↦ (r.when, h, r.was)
+          | inr h ↦ elim (cases_lt r.when j) [
+            | inl k ↦ absurd (r.no_set j s k b)
+            | inr k ↦ let q : j ≡ r.when = omega arith in absurd (not_both j s q b)
           ]
         ]
 
--- What the table says after a list is what the accepted calls say.
-pub holds : (n : ℕ) (calls : List Call) (log : List Line) (g : Table) → Told n nothing calls log g → (p : ℕ) → Holds calls log p (g p)
-holds n calls log g t p = holds_by calls log p (g p) (last t p)
-
--- One position more of a search.
-nearest_one : (calls : List Call) (log : List Line) (p k : ℕ) (x v : Option ℕ) → Holds calls log (p + suc k) v → Nearest calls log (p + k) p x
-    → Nearest calls log (p + suc k) p (or_then x (filled v (p + suc k)))
-nearest_one calls log p k None None h m = λ q a b.
-    elim (cases_lt (p + k) q) [
-      | inl c ↦ let e : p + suc k ≡ q = omega arith in subst (λ (i : ℕ). Holds calls log i None) e h
-      | inr c ↦ m q a c
-    ]
-nearest_one calls log p k None (Some s) h m =
-    (omega arith, omega arith, (s, h), λ j a b. m j a (omega arith))
-nearest_one calls log p k (Some q) v h m = (m.0, omega (arith, m.1), m.2, m.3)
-
--- The same up to the k-th position after p.
-nearest_by : (calls : List Call) (log : List Line) (g : Table) → ((p : ℕ) → Holds calls log p (g p)) → (p k : ℕ) → Nearest calls log (p + k) p (nearest g p k)
-unfolding nearest
-nearest_by calls log g h p zero = λ q a b. absurd (omega arith)
-nearest_by calls log g h p (suc k) = nearest_one calls log p k (nearest g p k) (g (p + suc k)) (h (p + suc k)) (nearest_by calls log g h p k)
-
--- The nearest filled position in the table, up to n, is the nearest by the calls.
-pub nearest_holds : (n : ℕ) (calls : List Call) (log : List Line) (g : Table) → Told n nothing calls log g
-    → (p : ℕ) → p ≤ n → Nearest calls log n p (nearest g p (n - p))
-nearest_holds n calls log g t p b =
-    let e : p + (n - p) ≡ n = omega arith in
-    subst (λ (i : ℕ). Nearest calls log i p (nearest g p (n - p))) e (nearest_by calls log g (holds n calls log g t) p (n - p))
+pub blank_case : BlankCase
+blank_case past p v e (as_set s r i) = holds_from_blank past p v (set_last s r i)
+blank_case past p v e (cleared r i) = holds_from_blank past p v (cleared_last r i)
+blank_case past p v e (as_opened m i) = holds_from_blank past p v (untouched m (i ∙ e))
 
 -- An account up to its line i, and what line i says.
 record Upto (n : ℕ) (f : Table) (calls : List Call) (log : List Line) (i : ℕ) (c : Call) (l : Line) : Type 0 where
@@ -199,42 +193,25 @@ upto (then a t) (suc i) c l x y =
     let r = upto t i c l x y in
     record { table = r.table; told = then a r.told; looked = r.looked }
 
--- what an answer says, by what it says without its microseconds
-said_by : (r : Result Answer ConsoleFault) (s : Said) → look r ≡ Ok s → said r ≡ Some s
-said_by (Ok x) s e = cc
-said_by (Err f) s e = absurd (no_one cc)
-
--- what the table tells of a recall and a next that are in range
-tells_recall : (n : ℕ) (g : Table) (p : ℕ) → 1 ≤ p → p ≤ n → tells n g (Recall p) ≡ Ok (Shows (g p))
-tells_recall n g p a b = cond-true (is_position n p) _ _ (and_from _ _ (le-leb 1 p a) (le-leb p n b))
-
-tells_next : (n : ℕ) (g : Table) (p : ℕ) → p ≤ n → tells n g (Next p) ≡ Ok (Finds (nearest g p (n - p)))
-tells_next n g p b = cond-true (leb p n) _ _ (le-leb p n b)
-
--- What a recall and a next promise, by what the table tells.
-shows_last : (n : ℕ) (calls : List Call) (log : List Line) (g : Table) → Told n nothing calls log g → (p : ℕ) → 1 ≤ p → p ≤ n
-    → (r : Result Answer ConsoleFault) → look r ≡ tells n g (Recall p) → ShowsLast calls log p r
-shows_last n calls log g t p a b r e = (g p, said_by r (Shows (g p)) (e ∙ tells_recall n g p a b), holds n calls log g t p)
-
-finds_nearest : (n : ℕ) (calls : List Call) (log : List Line) (g : Table) → Told n nothing calls log g → (p : ℕ) → p ≤ n
-    → (r : Result Answer ConsoleFault) → look r ≡ tells n g (Next p) → FindsNearest calls log n p r
-finds_nearest n calls log g t p b r e =
-    (nearest g p (n - p), said_by r (Finds (nearest g p (n - p))) (e ∙ tells_next n g p b), nearest_holds n calls log g t p b)
-
--- All that is promised of one console, by its table.
-pub kept : (n : ℕ) (calls : List Call) (log : List Line) (g : Table) (e : Desk) → Told n nothing calls log g
-    → ((c : Call) (r : Result Answer ConsoleFault) (k : Desk) → OnlyLooks c → Replies e c r k → look r ≡ tells n g c)
-    → Kept calls log n e
-kept n calls log g e t h = record {
-  recalls = λ p a b r k x. shows_last n calls log g t p a b r (h (Recall p) r k tt x);
-  nexts = λ p b r k x. finds_nearest n calls log g t p b r (h (Next p) r k tt x);
-  recalls_inside = λ i p l x y a b.
-      let u = upto t i (Recall p) l x y in
-      shows_last n (take i calls) (take i log) u.table u.told p a b l.reply (u.looked.told tt);
-  nexts_inside = λ i p l x y b.
-      let u = upto t i (Next p) l x y in
-      finds_nearest n (take i calls) (take i log) u.table u.told p b l.reply (u.looked.told tt);
-  prompt = λ i c l x y o. (upto t i c l x y).looked.prompt o;
+-- All that is promised of one console, by its table: f is the table before the list, and `showed` what the books showed.
+pub kept : (Holding : Past → ℕ → Option ℕ → Type 0) (showed f : Table)
+    → ((past : Past) (p : ℕ) (w : Option ℕ) → past.showed ≡ showed → Last past.calls past.lines p (f p) w → Holding past p w)
+    → (past : Past) (n : ℕ) (g : Table) (e : Desk) → past.showed ≡ showed → Told n f past.calls past.lines g
+    → ((c : Call) (r : Result Answer ConsoleFault) (k : Desk) → OnlyLooks c → Replies e c r k
+    → (look r ≡ tells n g c) × Prompt e.part.clock k.part.clock r)
+    → Kept Holding past n e
+kept Holding showed f by past n g e i t h = record {
+  recalls = λ p a b r k x. shows_held (Holding past) n g p a b (by past p (g p) i (last t p)) r (h (Recall p) r k tt x).0;
+  nexts = λ p b r k x. finds_nearest (Holding past) n g p b (λ q _ _. by past q (g q) i (last t q)) r (h (Next p) r k tt x).0;
+  recalls_inside = λ j p l x y a b.
+      let u = upto t j (Recall p) l x y in
+      shows_held (Holding (first_calls j past)) n u.table p a b (by (first_calls j past) p (u.table p) i (last u.told p)) l.reply (u.looked.told tt);
+  nexts_inside = λ j p l x y b.
+      let u = upto t j (Next p) l x y in
+      finds_nearest (Holding (first_calls j past)) n u.table p b (λ q _ _. by (first_calls j past) q (u.table q) i (last u.told q)) l.reply
+      (u.looked.told tt);
+  prompt_inside = λ j c l x y o. (upto t j c l x y).looked.prompt o;
+  prompt = λ c r k o x. (h c r k o x).1;
 }
 
 -- Two answers that are alike without their microseconds are the same.

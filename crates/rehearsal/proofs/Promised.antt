@@ -1,42 +1,26 @@
 -- The promise, from what each single call does.
-use Rattle.std.proofs.Common.{◌≡◌, ℕ, ◌<◌, ◌≤◌, true, false, not, List, is_some, None, Ok, Err, Option, Result, sym, refl, ap, ◌∙◌, subst, arith}
+use Rattle.std.proofs.Common.{◌≡◌, ℕ, ◌<◌, ◌≤◌, true, false, not, List, is_some, None, Ok, Option, sym, refl, ap, ◌∙◌, subst, arith}
 use Rattle.std.specs.Prelude.{is_ok}
 use Rattle.std.proofs.lemmas.Bool.{both_ways, and_parts, not-true}
-use Rattle.fault.specs.declared.faults.PartFault.{PartFault}
 use Rattle.part.specs.Meaning.{Meaning, worn, Lawful}
 use Rattle.part.specs.Calls.{stands}
 use Rattle.book.specs.Pages.{page_at, shown, blank}
 use Rattle.book.specs.Pairs.{Pair, book_size}
-use Rattle.book.specs.Finding.{width, positions_of, Opened}
-use Rattle.book.proofs.Opening.{OpenBooks, opened_books, opened_again}
-use Rattle.fault.specs.declared.faults.ConsoleFault.{ConsoleFault}
-use Rattle.console.specs.declared.answers.Answer.{Answer}
+use Rattle.book.specs.Finding.{width, positions_of}
+use Rattle.book.proofs.Opening.{opened_again}
 use Rattle.console.specs.declared.call.Call.{Call}
-use Rattle.console.specs.declared.call.Call.TheVariants.{Set, Clear, Recall, Next, Wait}
-use Rattle.part.specs.Neighbours.{elapsed}
 use Rattle.console.specs.Desks.{Desk, opened, moved, is_quiet}
-use Rattle.console.specs.Calls.{OpensClosed, OpensOn, Opens, Replies, desk_after, open_report}
+use Rattle.console.specs.Opening.{OpensOn, Opens, desk_after, open_report}
+use Rattle.console.specs.Calls.{Replies}
 use Rattle.rehearsal.specs.declared.line.Line.{Line}
-use Rattle.rehearsal.specs.declared.account.Seats.{Seats}
-use Rattle.rehearsal.specs.declared.account.Opening.{Opening}
-use Rattle.rehearsal.specs.declared.account.Rehearsal.{Rehearsal}
-use Rattle.rehearsal.specs.Accounts.{Played, none, more, Performed}
-use Rattle.rehearsal.specs.Promises.{Reports, Kept, FromBlank, positions, Promise, SameAgain}
-use Rattle.rehearsal.proofs.Tables.{Table, nothing, after, tells, Looked, Told, Sure, end, then}
-use Rattle.rehearsal.proofs.Keeping.{Rest, ready, erasing, spoilt, Keeps, Goes}
-use Rattle.rehearsal.proofs.Storing.{set_goes, clear_goes}
-use Rattle.rehearsal.proofs.Looks.{recall_goes, next_goes}
-use Rattle.rehearsal.proofs.Waits.{keeps_ended, wait_goes}
-use Rattle.rehearsal.proofs.Listing.{kept, accepts, alike}
-
--- Any of the five calls.
-goes : (o : Meaning) (a b : ℕ) (f : Table) (m : Meaning) (c : Pair) (call : Call) (r : Result Answer ConsoleFault) (e : Desk) → Lawful m
-    → Keeps o a b f m c → Replies (opened m c) call r e → Goes o a b f m c call r e
-goes o a b f m c (Set p stops) r e l k x = let d = keeps_ended o a b f m c l k in set_goes o a b f m c k d.keeps d.idle p stops r e x
-goes o a b f m c (Clear p) r e l k x = let d = keeps_ended o a b f m c l k in clear_goes o a b f m c k d.keeps d.idle p r e x
-goes o a b f m c (Recall p) r e l k x = recall_goes o a b f m c p r e l k x
-goes o a b f m c (Next p) r e l k x = next_goes o a b f m c p r e l k x
-goes o a b f m c (Wait us) r e l k x = wait_goes o a b f m c us r e l k x
+use Rattle.console.specs.Showing.{books_show, Prompt}
+use Rattle.rehearsal.specs.Accounts.{Run, Past, Played, none, more, Performed, Holds, HoldsFromBlank}
+use Rattle.rehearsal.specs.Promises.{Kept, IsOpened, OnBlank, Sound, positions, past, ShowNothing, Alike, Trusty, Promise, SameAgain}
+use Rattle.console.proofs.Tables.{Table, nothing, after, tells}
+use Rattle.rehearsal.proofs.Tables.{Looked, Told, Sure, end, then}
+use Rattle.console.proofs.Keeping.{Rest, ready, erasing, spoilt, Keeps}
+use Rattle.console.proofs.Going.{goes, Took, took, keeps_opened}
+use Rattle.rehearsal.proofs.Listing.{Last, holds, holds_from_blank, blank_case, kept, accepts, alike}
 
 -- What holds after a list of calls, and what its account tells.
 record After (o : Meaning) (a b : ℕ) (f : Table) (calls : List Call) (log : List Line) (e : Desk) : Type 0 where
@@ -65,8 +49,8 @@ played o a b f d c calls log e l i k (more {k = h} {c = call} {cs = cs} {l = lin
     let next = played o a b (after call (is_ok line.reply) f) h g.books cs ls e p.lawful g.leaves g.keeps rest in
     let looked : Looked n f call line = record {
       told = λ only. g.looks only ∙ ap (λ (x : ℕ). tells x f call) k.positions;
-      prompt = λ only. subst (λ (x : ℕ). (elapsed x line.after ≤ 15) × Reports (elapsed x line.after) line.reply) (sym p.before)
-          (subst (λ (x : ℕ). (elapsed d.part.clock x ≤ 15) × Reports (elapsed d.part.clock x) line.reply) (sym p.after) (g.prompt only));
+      prompt = λ only. subst (λ (x : ℕ). Prompt x line.after line.reply) (sym p.before)
+          (subst (λ (x : ℕ). Prompt d.part.clock x line.reply) (sym p.after) (g.prompt only));
     } in
     record {
       table = next.table;
@@ -78,83 +62,90 @@ played o a b f d c calls log e l i k (more {k = h} {c = call} {cs = cs} {l = lin
       lawful = next.lawful;
     }
 
--- what an opening that was accepted has taken
-record Took (m : Meaning) (a b : ℕ) (e : Desk) : Type 0 where
-  books : Pair
-  leaves : e ≡ opened e.part books
-  opens : OpenBooks m a b books e.part
-
-took : (m : Meaning) (a b : ℕ) (r : Result ℕ ConsoleFault) (e : Desk) → Lawful m → is_ok r ≡ true → OpensClosed m a b r e → Took m a b e
-took m a b r e l t x = by x.taken refl
-  where
-    by : (q : Result Pair PartFault) → x.taken ≡ q → Took m a b e
-    by (Ok c) d =
-        let y : Opened m a b (Ok c) x.part = subst (λ (q : Result Pair PartFault). Opened m a b q x.part) d x.opens in
-        let i : e ≡ opened x.part c = x.leaves ∙ ap (desk_after x.part) d in
-        let j : e.part ≡ x.part = ap (λ (z : Desk). z.part) i in
-        record {
-          books = c;
-          leaves = i ∙ ap (λ (z : Meaning). opened z c) (sym j);
-          opens = subst (λ (z : Meaning). OpenBooks m a b c z) (sym j) (opened_books m a b c x.part l y);
-        }
-    by (Err f) d =
-        let y : is_ok r ≡ false = ap (λ (z : Result ℕ ConsoleFault). is_ok z) (x.says ∙ ap (open_report m x.part) d) in
-        absurd (both_ways (is_ok r) y t)
-
 -- the table with which it begins
 abbrev first_table : Meaning → Pair → Table
 first_table m c p = shown m.cells (page_at c.current.start p)
 
-keeps_opened : (m : Meaning) (a b : ℕ) (c : Pair) (n : Meaning) (f : Table) → OpenBooks m a b c n
-    → ((p : ℕ) → 1 ≤ p → p ≤ c.positions → shown n.cells (page_at c.current.start p) ≡ f p) → Keeps m a b f n c
-keeps_opened m a b c n f x s = record {
-  seated = x.seated;
-  blocks = x.blocks;
-  sizes = x.sizes;
-  guards = x.guards;
-  wears = x.wears;
-  positions = x.positions;
-  head = x.head;
-  readable = x.readable;
-  shows = s;
-  rest = x.rest;
+-- One console that was opened.
+module _ (calls : List Call) (r : Run) (p : Performed calls r) (z : IsOpened r) where
+  abbrev m : Meaning
+  m = r.before.part
+
+  abbrev first_seat : ℕ
+  first_seat = r.seats.first
+
+  abbrev second_seat : ℕ
+  second_seat = r.seats.second
+
+  its_books : Took m first_seat second_seat p.start
+  unfolding Opens
+  its_books =
+      took m first_seat second_seat r.opening.reply p.start p.opens.lawful_before z.accepted
+      (subst (λ (w : Option Pair). OpensOn w r.before first_seat second_seat r.opening.reply p.start) z.closed p.opens.replies)
+
+  -- what its books show, as they stand in the cells
+  in_cells : (q : ℕ) → books_show p.start q ≡ shown p.start.part.cells (page_at its_books.books.current.start q)
+  in_cells q = ap (λ (d : Desk). books_show d q) its_books.leaves
+
+  -- the list, from a table that says what they show
+  list_run : (f : Table) → ((q : ℕ) → 1 ≤ q → q ≤ positions r → books_show p.start q ≡ f q) → After m first_seat second_seat f calls r.lines r.after
+  list_run f s =
+      let t = its_books in
+      played m first_seat second_seat f p.start t.books calls r.lines r.after p.opens.lawful t.leaves
+      (keeps_opened m first_seat second_seat t.books p.start.part f t.opens
+      (λ q l h. sym (in_cells q) ∙ s q l (subst (λ (n : ℕ). q ≤ n) t.opens.positions h))) p.played
+
+  nothing_shown : OnBlank r → ShowNothing (positions r) p.start
+  nothing_shown b q l h = in_cells q ∙ its_books.opens.empty (b.first, b.second) q l (subst (λ (n : ℕ). q ≤ n) (sym its_books.opens.positions) h)
+
+  kept_by : (Holding : Past → ℕ → Option ℕ → Type 0) (f : Table)
+      → ((x : Past) (q : ℕ) (w : Option ℕ) → x.showed ≡ books_show p.start → Last x.calls x.lines q (f q) w → Holding x q w)
+      → ((q : ℕ) → 1 ≤ q → q ≤ positions r → books_show p.start q ≡ f q) → Kept Holding (past calls r p.start) (positions r) r.after
+  kept_by Holding f by s =
+      let x = list_run f s in
+      kept Holding (books_show p.start) f by (past calls r p.start) (positions r) x.table r.after refl x.told
+      (λ c reply k only y.
+      let g = goes m first_seat second_seat x.table r.after.part x.books c reply k x.lawful x.keeps
+      (subst (λ (w : Desk). Replies w c reply k) x.leaves y) in
+      (g.looks only ∙ ap (λ (n : ℕ). tells n x.table c) x.keeps.positions, g.prompt only))
+
+  trusty : Trusty calls r p.start
+  trusty = record {
+    kept = kept_by Holds (books_show p.start)
+        (λ x q w i l. holds x q w (subst (λ (v : Option ℕ). Last x.calls x.lines q v w) (sym (ap (λ (f : Table). f q) i)) l)) (λ _ _ _. refl);
+    blank = nothing_shown;
+    kept_from_blank = λ b. kept_by HoldsFromBlank nothing (λ x q w _ l. holds_from_blank x q w l) (nothing_shown b);
+    accepts = λ s. accepts ((list_run (books_show p.start) (λ _ _ _. refl)).sure s.0 s.1);
+  }
+
+-- Two consoles that begin with one table.
+alike_from : (calls : List Call) (quick slow : Run) (p : Performed calls quick) (q : Performed calls slow) (f : Table) → IsOpened quick → IsOpened slow
+    → positions quick ≡ positions slow
+    → ((i : ℕ) → 1 ≤ i → i ≤ positions quick → books_show p.start i ≡ f i) → ((i : ℕ) → 1 ≤ i → i ≤ positions slow → books_show q.start i ≡ f i)
+    → Sound quick → Sound slow → Alike calls quick.lines slow.lines
+alike_from calls quick slow p q f y z w s t u v =
+    alike (positions quick) f calls quick.lines slow.lines ((list_run calls quick p y f s).sure u.0 u.1)
+    (subst (λ (n : ℕ). Sure n f calls slow.lines) (sym w) ((list_run calls slow q z f t).sure v.0 v.1))
+
+pub promised : (calls : List Call) (quick slow : Run) → Performed calls quick → Performed calls slow → Promise calls quick slow
+promised calls quick slow p q = record {
+  quick_trusty = trusty calls quick;
+  slow_trusty = trusty calls slow;
+  alike = λ x y a b w s u v.
+      alike_from calls quick slow x y (books_show x.start) a b w (λ _ _ _. refl)
+      (λ i l h. sym (s i l (subst (λ (n : ℕ). i ≤ n) (sym w) h))) u v;
+  alike_from_blank = λ a b c d w u v.
+      alike_from calls quick slow p q nothing a b w (nothing_shown calls quick p a c) (nothing_shown calls slow q b d) u v;
+  blank_case = blank_case;
 }
 
--- One console that was opened on two blank books.
-blank_run : (d : Desk) (on : Seats) (calls : List Call) (o : Opening) (log : List Line) (e : Desk) → Lawful d.part → Performed d on calls o log e
-    → FromBlank d on o → After d.part on.first on.second nothing calls log e
-unfolding Opens
-blank_run d on calls o log e l p z =
-    let x : OpensClosed d.part on.first on.second o.reply p.start =
-    subst (λ (w : Option Pair). OpensOn w d on.first on.second o.reply p.start) z.closed p.opens.replies in
-    let t = took d.part on.first on.second o.reply p.start l z.accepted x in
-    played d.part on.first on.second nothing p.start t.books calls log e p.opens.lawful t.leaves
-    (keeps_opened d.part on.first on.second t.books p.start.part nothing t.opens (t.opens.empty (z.first, z.second))) p.played
-
-keeps_promise : (d : Desk) (on : Seats) (calls : List Call) (o : Opening) (log : List Line) (e : Desk) → Lawful d.part → Performed d on calls o log e
-    → FromBlank d on o → Kept calls log (positions d.part on) e
-keeps_promise d on calls o log e l p z =
-    let x = blank_run d on calls o log e l p z in
-    kept (positions d.part on) calls log x.table e x.told
-    (λ c r k only y.
-    let g = goes d.part on.first on.second x.table e.part x.books c r k x.lawful x.keeps (subst (λ (w : Desk). Replies w c r k) x.leaves y) in
-    g.looks only ∙ ap (λ (n : ℕ). tells n x.table c) x.keeps.positions)
-
-pub promised : (calls : List Call) (quick slow : Seats) (d e k f : Desk) (r : Rehearsal) → Lawful d.part → Lawful k.part
-    → Performed d quick calls r.quick.opening r.quick.lines.items e → Performed k slow calls r.slow.opening r.slow.lines.items f
-    → Promise calls quick slow d e k f r
-promised calls quick slow d e k f r l m p q = record {
-  kept_quick = λ z. keeps_promise d quick calls r.quick.opening r.quick.lines.items e l p z;
-  kept_slow = λ z. keeps_promise k slow calls r.slow.opening r.slow.lines.items f m q z;
-  accepts_quick = λ z s. accepts ((blank_run d quick calls r.quick.opening r.quick.lines.items e l p z).sure s.0 s.1);
-  accepts_slow = λ z s. accepts ((blank_run k slow calls r.slow.opening r.slow.lines.items f m q z).sure s.0 s.1);
-  alike = λ y z w s t.
-      let i : positions k.part slow ≡ positions d.part quick = ap positions_of (sym w) in
-      alike (positions d.part quick) nothing calls r.quick.lines.items r.slow.lines.items
-      ((blank_run d quick calls r.quick.opening r.quick.lines.items e l p y).sure s.0 s.1)
-      (subst (λ (n : ℕ). Sure n nothing calls r.slow.lines.items) i
-      ((blank_run k slow calls r.slow.opening r.slow.lines.items f m q z).sure t.0 t.1));
-}
+-- The same of two lists of calls that are one, and of lines that were written before the other console's.
+pub promised_of : (calls again : List Call) (quick slow : Run) (lines : List Line) → again ≡ calls → lines ≡ quick.lines → Performed calls quick
+    → Performed again slow → Promise calls (record quick { lines = lines }) slow
+promised_of calls again quick slow lines e d p q =
+    promised calls (record quick { lines = lines }) slow
+    (subst (λ (ls : List Line). Performed calls (record quick { lines = ls })) (sym d) p)
+    (subst (λ (cs : List Call). Performed cs slow) e q)
 
 -- Opening again.
 quiet_ready : (e : Desk) (c : Pair) → e ≡ opened e.part c → is_quiet e ≡ true → Rest e.part c

@@ -1,5 +1,6 @@
 -- The worked examples: those on the chip come from there, and those on a console by the bytes that its calls burn.
-use Rattle.std.proofs.Common.{◌≡◌, ℕ, ◌+◌, ◌<◌, ◌≤◌, Bool, true, false, cond, not, ◌&&◌, ◌||◌, eqb, leb, ltb, List, [], ◌∷◌, ◌++◌, map, length, get_or, set, is_some, Some, None, Ok, Option, Result, is_ok, sym, refl, ap, ◌∙◌, subst, subst₂, ap₂, inl, inr, arith, lit<}
+use Rattle.std.proofs.Common.{◌≡◌, ℕ, ◌+◌, ◌<◌, ◌≤◌, Bool, true, false, cond, not, ◌&&◌, ◌||◌, eqb, leb, ltb, List, [], ◌∷◌, ◌++◌, map, length, get_or, set, is_some, is_none, Some, None, Ok, Option, Result, is_ok, sym, refl, ap, ◌∙◌, subst, subst₂, ap₂, inl, inr, arith, lit<}
+use Rattle.std.specs.Prelude.{MatchResult}
 use lib.Count.{count_trailing_zeros}
 use Rattle.std.proofs.lemmas.List.{length-set, get_or-set_same, get_or-set_other}
 use Rattle.std.proofs.lemmas.Bool.{cases_Bool, and_parts, and_from, ltb-true, leb-true, le-leb, lt-ltb, lt-leb, eqb-true, eqb-false, cond-true, cond-false}
@@ -30,8 +31,11 @@ use Rattle.console.specs.declared.call.Call.{Call}
 use Rattle.console.specs.declared.call.Call.TheVariants.{Set, Clear}
 use Rattle.console.specs.Desks.{Desk, closed, opened, moved}
 use Rattle.console.specs.Waiting.{let_end, let_end_by, ends_worn, ends_worn_by}
-use Rattle.console.specs.Storing.{is_none, Goes, Writes, Stored, fits, is_position, store_no, reported, StoresOpen, StoresIf, Stores}
-use Rattle.console.specs.Calls.{desk_after, open_report, Opens, done, By}
+use Rattle.console.specs.declared.answers.Said.TheVariants.{Done}
+use Rattle.console.specs.Faults.{no_place, reported, Refuses}
+use Rattle.console.specs.Checks.{fits, is_position, store_books}
+use Rattle.console.specs.Opening.{desk_after, open_report, Opens}
+use Rattle.console.specs.Storing.{Goes, Writes, Stored, StoresOn, Stores}
 use Rattle.rehearsal.specs.declared.line.Line.{Line}
 use Rattle.rehearsal.specs.Accounts.{Plays, Played, none, more}
 use Rattle.rehearsal.specs.Examples.{Cell, Example, cycles, calls, BenchPart, AllAccepted, Hold, ComesOut, Each, WorkedExamples}
@@ -281,32 +285,6 @@ module _ (m : Meaning) (part : BenchPart m) where
       (write_laws.exact k n (line_added at (get_or k.cells at 0) new)
       (subst (λ (v : Result (Unit {0}) PartFault). Ran k (line_added at (get_or k.cells at 0) new) v n) d.accepted z.0))
 
-  -- The same on the console.
-  record Lined (steps : List Step) (p : ℕ) (new : Option ℕ) (q : Result ℕ ConsoleFault) (e : Desk) : Type 0 where
-    us : ℕ
-    accepted : q ≡ Ok us
-    stands : Stands m (line_more steps p new) p new e
-
-  lined : (steps : List Step) (p : ℕ) (was new : Option ℕ) (d e : Desk) (q : Result ℕ ConsoleFault) → Stands m steps p was d
-      → 1 ≤ p → p ≤ 7 → fits new ≡ true → StopsFit new → (is_none was && is_none new) ≡ false → used (left steps (page p)) < 7
-      → Stores d p new q e → Lined steps p new q e
-  unfolding Stores
-  lined steps p was new d e q s low high fit stops some free x =
-      let k : Meaning = past m steps s.time in
-      let granted : store_no (Some books) p new ≡ None =
-      cond-true (is_position books p) _ _ (and_from _ _ (le-leb 1 p low) (le-leb p 7 high)) ∙ cond-true (fits new) _ _ fit in
-      by (subst (λ (o : Option Cause). StoresIf o (opened k books) (Some books) p new q e) granted
-      (subst (λ (d : Desk). Stores d p new q e) s.is x))
-    where
-      by : StoresOpen (past m steps s.time) books p new q e → Lined steps p new q e
-      by y =
-          let w = wrote steps s.time p was new y.answer y.part y.books low high s.readable s.shows stops some free y.stored in
-          record {
-            us = moved (past m steps s.time) y.part;
-            accepted = y.says ∙ ap (reported (moved (past m steps s.time) y.part) p) w.accepted;
-            stands = record { time = w.time; is = y.leaves ∙ ap₂ opened w.is w.same; readable = w.readable; shows = w.shows };
-          }
-
   -- The same as a call of a list.
   record Called (steps : List Step) (p : ℕ) (new : Option ℕ) (l : Line) (e : Desk) : Type 0 where
     accepted : is_ok l.reply ≡ true
@@ -314,10 +292,22 @@ module _ (m : Meaning) (part : BenchPart m) where
 
   called : (steps : List Step) (p : ℕ) (was new : Option ℕ) (d e : Desk) (l : Line) → Stands m steps p was d
       → 1 ≤ p → p ≤ 7 → fits new ≡ true → StopsFit new → (is_none was && is_none new) ≡ false → used (left steps (page p)) < 7
-      → By (λ q. Stores d p new q e) done l.reply → Called steps p new l e
+      → Stores d p new l.reply e → Called steps p new l e
+  unfolding Stores
   called steps p was new d e l s low high fit stops some free x =
-      let w = lined steps p was new d e x.answer s low high fit stops some free x.does in
-      record { accepted = ap is_ok (x.says ∙ ap done w.accepted); stands = w.stands }
+      let granted : store_books (Some books) p new ≡ Ok books =
+      cond-true (is_position books p) _ _ (and_from _ _ (le-leb 1 p low) (le-leb p 7 high)) ∙ cond-true (fits new) _ _ fit in
+      let at : Desk = opened (past m steps s.time) books in
+      by (subst (λ (q : Result Pair Cause). MatchResult q (λ b. StoresOn at b p new l.reply e) (λ cause. Refuses at (no_place cause p) l.reply e)) granted
+      (subst (λ (d : Desk). Stores d p new l.reply e) s.is x))
+    where
+      by : StoresOn (opened (past m steps s.time) books) books p new l.reply e → Called steps p new l e
+      by y =
+          let w = wrote steps s.time p was new y.answer e.part y.books low high s.readable s.shows stops some free y.stored in
+          record {
+            accepted = ap is_ok (y.says ∙ ap (reported p (λ _. record { said = Done; us = moved (past m steps s.time) e.part })) w.accepted);
+            stands = record { time = w.time; is = y.leaves ∙ ap₂ opened w.is w.same; readable = w.readable; shows = w.shows };
+          }
 
 -- The first call of a list, and the rest.
 record FirstCall (d : Desk) (c : Call) (cs : List Call) (log : List Line) (e : Desk) : Type 0 where

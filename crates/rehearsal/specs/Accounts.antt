@@ -1,11 +1,12 @@
 -- A list of calls on a console, and the account of it: a line for each call.
-use Rattle.std.specs.Prelude.{◌≡◌, ℕ, ◌<◌, true, List, [], ◌∷◌, is_ok, Some, None, Option}
+use Rattle.std.specs.Prelude.{◌≡◌, ℕ, ◌<◌, true, List, [], ◌∷◌, is_ok, take, Some, None, Option}
 use Rattle.std.specs.List.{slice_get}
 use Rattle.part.specs.Meaning.{Lawful}
 use Rattle.console.specs.declared.call.Call.{Call}
 use Rattle.console.specs.declared.call.Call.TheVariants.{Set, Clear}
 use Rattle.console.specs.Desks.{Desk}
-use Rattle.console.specs.Calls.{Opens, Replies}
+use Rattle.console.specs.Opening.{Opens}
+use Rattle.console.specs.Calls.{Replies}
 use Rattle.rehearsal.specs.declared.line.Line.{Line}
 use Rattle.rehearsal.specs.declared.account.Seats.{Seats}
 use Rattle.rehearsal.specs.declared.account.Opening.{Opening}
@@ -28,13 +29,28 @@ pub record OpensOnce (d : Desk) (on : Seats) (o : Opening) (e : Desk) : Type 0 w
   pub before : o.before ≡ d.part.clock
   pub after : o.after ≡ e.part.clock
   pub replies : Opens d on.first on.second o.reply e
+  -- and so before an opening, and after it
+  pub lawful_before : Lawful d.part
   pub lawful : Lawful e.part
 
+-- One console in a rehearsal: as it was before, the blocks on which it was opened and how that went, the line of each call, and
+-- the console afterwards.
+pub record Run : Type 0 where
+  pub before : Desk
+  pub seats : Seats
+  pub opening : Opening
+  pub lines : List Line
+  pub after : Desk
+
+abbrev pub run : Desk → Seats → Opening → List Line → Desk → Run
+run before seats opening lines after = record { before = before; seats = seats; opening = opening; lines = lines; after = after }
+
 -- A console was opened, accepted or refused, and then these calls were made.
-pub record Performed (d : Desk) (on : Seats) (calls : List Call) (o : Opening) (log : List Line) (e : Desk) : Type 0 where
+pub record Performed (calls : List Call) (r : Run) : Type 0 where
+  -- the console as it was opened
   pub start : Desk
-  pub opens : OpensOnce d on o start
-  pub played : Played start calls log e
+  pub opens : OpensOnce r.before r.seats r.opening start
+  pub played : Played start calls r.lines r.after
 
 -- call i of the list is c, and was accepted
 pub record Accepted (calls : List Call) (log : List Line) (i : ℕ) (c : Call) : Type 0 where
@@ -50,11 +66,43 @@ pub record LastSet (calls : List Call) (log : List Line) (p stops : ℕ) : Type 
   pub no_set : (j other : ℕ) → when < j → Accepted calls log j (Set p other) → ⊥
   pub no_clear : (j : ℕ) → when < j → Accepted calls log j (Clear p) → ⊥
 
+-- a clear was accepted at p, and no set was accepted there later
+pub record LastClear (calls : List Call) (log : List Line) (p : ℕ) : Type 0 where
+  pub when : ℕ
+  pub was : Accepted calls log when (Clear p)
+  pub no_set : (j stops : ℕ) → when < j → Accepted calls log j (Set p stops) → ⊥
+
+-- neither a set nor a clear was accepted at p
+pub record Untouched (calls : List Call) (log : List Line) (p : ℕ) : Type 0 where
+  pub no_set : (j stops : ℕ) → Accepted calls log j (Set p stops) → ⊥
+  pub no_clear : (j : ℕ) → Accepted calls log j (Clear p) → ⊥
+
 -- no set was accepted at p, or each was followed by a clear that was accepted there
 abbrev pub Emptied : List Call → List Line → ℕ → Type 0
 Emptied calls log p = (i stops : ℕ) → Accepted calls log i (Set p stops) → (j : ℕ) × (i < j) × Accepted calls log j (Clear p)
 
--- What position p holds after these calls, by their answers alone.
-abbrev pub Holds : List Call → List Line → ℕ → Option ℕ → Type 0
-Holds calls log p (Some stops) = LastSet calls log p stops
-Holds calls log p None = Emptied calls log p
+-- What came before: what the books showed at each position when they were opened, and the calls since then with their lines.
+pub record Past : Type 0 where
+  pub showed : ℕ → Option ℕ
+  pub calls : List Call
+  pub lines : List Line
+
+-- the first i calls of it
+abbrev pub first_calls : ℕ → Past → Past
+first_calls i past = record past { calls = take i past.calls; lines = take i past.lines }
+
+-- What position p holds, by the answers alone: the stops of the last set that was accepted there, nothing after a later clear,
+-- or, with neither, what the books showed when they were opened.
+pub data Holds (past : Past) (p : ℕ) (v : Option ℕ) : Type 0 where
+  as_set : (stops : ℕ) → LastSet past.calls past.lines p stops → v ≡ Some stops → Holds past p v
+  cleared : LastClear past.calls past.lines p → v ≡ None → Holds past p v
+  as_opened : Untouched past.calls past.lines p → v ≡ past.showed p → Holds past p v
+
+-- The same where the books showed nothing when they were opened.
+abbrev pub HoldsFromBlank : Past → ℕ → Option ℕ → Type 0
+HoldsFromBlank past p (Some stops) = LastSet past.calls past.lines p stops
+HoldsFromBlank past p None = Emptied past.calls past.lines p
+
+-- There the two say the same.
+abbrev pub BlankCase : Type 0
+BlankCase = (past : Past) (p : ℕ) (v : Option ℕ) → past.showed p ≡ None → Holds past p v → HoldsFromBlank past p v

@@ -7,7 +7,7 @@ use Rattle.fault.specs.declared.faults.ConsoleFault.{ConsoleFault}
 use Rattle.console.specs.declared.call.Call.{Call}
 use Rattle.console.specs.declared.call.Call.TheVariants.{Set, Clear}
 use Rattle.console.specs.Desks.{Desk, closed}
-use Rattle.console.specs.Calls.{Opens}
+use Rattle.console.specs.Opening.{Opens}
 use Rattle.rehearsal.specs.declared.line.Line.{Line}
 use Rattle.rehearsal.specs.Accounts.{Played}
 use Rattle.rehearsal.specs.Promises.{BlankBlock, Unworn}

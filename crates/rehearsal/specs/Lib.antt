@@ -1,3 +1,4 @@
+pub mod Rows
 pub mod Accounts
 pub mod Promises
 pub mod Examples

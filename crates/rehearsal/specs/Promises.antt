@@ -1,71 +1,38 @@
 -- What an organist is promised.
-use Rattle.std.specs.Prelude.{◌≡◌, ℕ, ◌<◌, ◌≤◌, true, false, List, is_ok, take, Some, None, Ok, Err, Option, Result}
+use Rattle.std.specs.Prelude.{◌≡◌, ℕ, ◌≤◌, true, false, List, is_ok, Some, None, Ok, Err, Option, Result}
 use Rattle.std.specs.List.{slice_get}
 use Rattle.part.specs.Meaning.{Meaning, worn, Lawful}
 use Rattle.part.specs.Calls.{longest}
-use Rattle.part.specs.Neighbours.{elapsed}
 use Rattle.book.specs.Pages.{blank}
 use Rattle.book.specs.Finding.{begins, width, positions_of}
 use Rattle.fault.specs.declared.faults.ConsoleFault.{ConsoleFault}
 use Rattle.console.specs.declared.answers.Answer.{Answer}
-use Rattle.console.specs.declared.answers.Said.{Said}
-use Rattle.console.specs.declared.answers.Said.TheVariants.{Shows, Finds}
 use Rattle.console.specs.declared.call.Call.{Call}
 use Rattle.console.specs.declared.call.Call.TheVariants.{Set, Clear, Recall, Next, Wait}
 use Rattle.console.specs.Desks.{Desk, closed, is_quiet}
-use Rattle.console.specs.Storing.{fits}
-use Rattle.console.specs.Calls.{Opens, Replies}
+use Rattle.console.specs.Showing.{books_show, ShowsHeld, FindsNearest, OnlyLooks, Prompt}
+use Rattle.console.specs.Checks.{fits}
+use Rattle.console.specs.Opening.{Opens}
+use Rattle.console.specs.Calls.{Replies}
 use Rattle.rehearsal.specs.declared.line.Line.{Line}
 use Rattle.rehearsal.specs.declared.account.Seats.{Seats}
-use Rattle.rehearsal.specs.declared.account.Opening.{Opening}
-use Rattle.rehearsal.specs.declared.account.Rehearsal.{Rehearsal}
-use Rattle.rehearsal.specs.Accounts.{Played, Holds}
+use Rattle.rehearsal.specs.Accounts.{Run, Past, first_calls, Played, Performed, Holds, HoldsFromBlank, BlankCase}
 
--- what an answer says, if the call was accepted
-abbrev pub said : Result Answer ConsoleFault → Option Said
-said (Ok x) = Some x.said
-said (Err f) = None
-
--- the nearest position after p that is not empty, of the positions up to n, or none
-abbrev pub Nearest : List Call → List Line → ℕ → ℕ → Option ℕ → Type 0
-Nearest calls log n p None = (q : ℕ) → p < q → q ≤ n → Holds calls log q None
-Nearest calls log n p (Some q) =
-    (p < q) × (q ≤ n) × ((stops : ℕ) × Holds calls log q (Some stops)) × ((j : ℕ) → p < j → j < q → Holds calls log j None)
-
--- A recall is accepted and shows the stops of the last set accepted at p, or empty.
-abbrev pub ShowsLast : List Call → List Line → ℕ → Result Answer ConsoleFault → Type 0
-ShowsLast calls log p r = (o : Option ℕ) × (said r ≡ Some (Shows o)) × Holds calls log p o
-
--- A next is accepted and gives the nearest later position that is not empty, or none.
-abbrev pub FindsNearest : List Call → List Line → ℕ → ℕ → Result Answer ConsoleFault → Type 0
-FindsNearest calls log n p r = (o : Option ℕ) × (said r ≡ Some (Finds o)) × Nearest calls log n p o
-
--- recall and next
-abbrev pub OnlyLooks : Call → Type 0
-OnlyLooks (Set p s) = ⊥
-OnlyLooks (Clear p) = ⊥
-OnlyLooks (Recall p) = Unit {0}
-OnlyLooks (Next p) = Unit {0}
-OnlyLooks (Wait n) = ⊥
-
--- an accepted call reports just so many microseconds
-abbrev pub Reports : ℕ → Result Answer ConsoleFault → Type 0
-Reports n (Ok x) = x.us ≡ n
-Reports n (Err f) = Unit {0}
-
--- One console, with books of n positions, after these calls.
-pub record Kept (calls : List Call) (log : List Line) (n : ℕ) (e : Desk) : Type 0 where
+-- One console, with books of n positions, after what came before. `Holding` says what a position holds by that.
+pub record Kept (Holding : Past → ℕ → Option ℕ → Type 0) (past : Past) (n : ℕ) (e : Desk) : Type 0 where
   -- after the list
-  pub recalls : (p : ℕ) → 1 ≤ p → p ≤ n → (r : Result Answer ConsoleFault) (k : Desk) → Replies e (Recall p) r k → ShowsLast calls log p r
-  pub nexts : (p : ℕ) → p ≤ n → (r : Result Answer ConsoleFault) (k : Desk) → Replies e (Next p) r k → FindsNearest calls log n p r
+  pub recalls : (p : ℕ) → 1 ≤ p → p ≤ n → (r : Result Answer ConsoleFault) (k : Desk) → Replies e (Recall p) r k
+      → ShowsHeld (Holding past) p r
+  pub nexts : (p : ℕ) → p ≤ n → (r : Result Answer ConsoleFault) (k : Desk) → Replies e (Next p) r k → FindsNearest (Holding past) n p r
   -- inside the list, by the account alone
-  pub recalls_inside : (i p : ℕ) (l : Line) → slice_get calls i ≡ Some (Recall p) → slice_get log i ≡ Some l → 1 ≤ p → p ≤ n
-      → ShowsLast (take i calls) (take i log) p l.reply
-  pub nexts_inside : (i p : ℕ) (l : Line) → slice_get calls i ≡ Some (Next p) → slice_get log i ≡ Some l → p ≤ n
-      → FindsNearest (take i calls) (take i log) n p l.reply
-  -- No recall or next, refused or not, moves the clock by more than 15 microseconds, and an accepted one reports just that.
-  pub prompt : (i : ℕ) (c : Call) (l : Line) → slice_get calls i ≡ Some c → slice_get log i ≡ Some l → OnlyLooks c
-      → (elapsed l.before l.after ≤ 15) × Reports (elapsed l.before l.after) l.reply
+  pub recalls_inside : (i p : ℕ) (l : Line) → slice_get past.calls i ≡ Some (Recall p) → slice_get past.lines i ≡ Some l → 1 ≤ p → p ≤ n
+      → ShowsHeld (Holding (first_calls i past)) p l.reply
+  pub nexts_inside : (i p : ℕ) (l : Line) → slice_get past.calls i ≡ Some (Next p) → slice_get past.lines i ≡ Some l → p ≤ n
+      → FindsNearest (Holding (first_calls i past)) n p l.reply
+  -- Each recall and next is prompt, refused or not, whatever position it names: inside the list, and after it.
+  pub prompt_inside : (i : ℕ) (c : Call) (l : Line) → slice_get past.calls i ≡ Some c → slice_get past.lines i ≡ Some l → OnlyLooks c
+      → Prompt l.before l.after l.reply
+  pub prompt : (c : Call) (r : Result Answer ConsoleFault) (k : Desk) → OnlyLooks c → Replies e c r k → Prompt e.part.clock k.part.clock r
 
 -- two answers are the same, the microseconds aside
 abbrev pub Same : Result Answer ConsoleFault → Result Answer ConsoleFault → Type 0
@@ -95,31 +62,61 @@ Accepts n calls log = (i : ℕ) (c : Call) (l : Line) → slice_get calls i ≡ 
 abbrev pub BlankBlock : Meaning → ℕ → Type 0
 BlankBlock m a = blank m.cells (begins m a) (width m a) ≡ true
 
--- The console was closed, and was opened on two books that were blank before.
-pub record FromBlank (d : Desk) (on : Seats) (o : Opening) : Type 0 where
-  pub closed : d.books ≡ None
-  pub first : BlankBlock d.part on.first
-  pub second : BlankBlock d.part on.second
-  pub accepted : is_ok o.reply ≡ true
+-- The console was closed, and its opening was accepted, whatever the books held.
+pub record IsOpened (r : Run) : Type 0 where
+  pub closed : r.before.books ≡ None
+  pub accepted : is_ok r.opening.reply ≡ true
+
+-- Both books were blank before.
+pub record OnBlank (r : Run) : Type 0 where
+  pub first : BlankBlock r.before.part r.seats.first
+  pub second : BlankBlock r.before.part r.seats.second
 
 -- neither of the two blocks is worn
 abbrev pub Unworn : Meaning → Seats → Type 0
 Unworn m on = (worn m on.first ≡ false) × (worn m on.second ≡ false)
 
--- how many positions a console has that is opened on these blocks
-abbrev pub positions : Meaning → Seats → ℕ
-positions m on = positions_of (width m on.first)
+-- how many positions a console has in a rehearsal
+abbrev pub positions : Run → ℕ
+positions r = positions_of (width r.before.part r.seats.first)
 
--- What is promised of two consoles that were opened and given one list of calls: d and e are a console before and after.
-pub record Promise (calls : List Call) (quick slow : Seats) (d e k f : Desk) (r : Rehearsal) : Type 0 where
-  pub kept_quick : FromBlank d quick r.quick.opening → Kept calls r.quick.lines.items (positions d.part quick) e
-  pub kept_slow : FromBlank k slow r.slow.opening → Kept calls r.slow.lines.items (positions k.part slow) f
+-- neither of its book blocks is worn
+abbrev pub Sound : Run → Type 0
+Sound r = Unworn r.before.part r.seats
+
+-- what came before, for a console that stood so once it was opened
+abbrev pub past : List Call → Run → Desk → Past
+past calls r start = record { showed = books_show start; calls = calls; lines = r.lines }
+
+-- Books that show the same at each of the n positions.
+abbrev pub ShowSame : ℕ → Desk → Desk → Type 0
+ShowSame n d e = (p : ℕ) → 1 ≤ p → p ≤ n → books_show d p ≡ books_show e p
+
+-- books that show nothing at each of the n positions
+abbrev pub ShowNothing : ℕ → Desk → Type 0
+ShowNothing n d = (p : ℕ) → 1 ≤ p → p ≤ n → books_show d p ≡ None
+
+-- What is promised of a console that was opened, stood as `start` then, and was given a list of calls.
+pub record Trusty (calls : List Call) (r : Run) (start : Desk) : Type 0 where
+  pub kept : Kept Holds (past calls r start) (positions r) r.after
+  -- Blank books show nothing when they are opened.
+  pub blank : OnBlank r → ShowNothing (positions r) start
+  pub kept_from_blank : OnBlank r → Kept HoldsFromBlank (past calls r start) (positions r) r.after
   -- Without a worn book block nothing is refused that is within the limits.
-  pub accepts_quick : FromBlank d quick r.quick.opening → Unworn d.part quick → Accepts (positions d.part quick) calls r.quick.lines.items
-  pub accepts_slow : FromBlank k slow r.slow.opening → Unworn k.part slow → Accepts (positions k.part slow) calls r.slow.lines.items
-  -- Books of one size, and no book block worn: the two answer alike.
-  pub alike : FromBlank d quick r.quick.opening → FromBlank k slow r.slow.opening → width d.part quick.first ≡ width k.part slow.first
-      → Unworn d.part quick → Unworn k.part slow → Alike calls r.quick.lines.items r.slow.lines.items
+  pub accepts : Sound r → Accepts (positions r) calls r.lines
+
+-- Two consoles that were opened and given one list of calls.
+pub record Promise (calls : List Call) (quick slow : Run) : Type 0 where
+  pub quick_trusty : (p : Performed calls quick) → IsOpened quick → Trusty calls quick p.start
+  pub slow_trusty : (p : Performed calls slow) → IsOpened slow → Trusty calls slow p.start
+  -- Books of as many positions that show the same, and no book block worn: the two answer alike.
+  pub alike : (p : Performed calls quick) (q : Performed calls slow) → IsOpened quick → IsOpened slow → positions quick ≡ positions slow
+      → ShowSame (positions quick) p.start q.start → Sound quick → Sound slow → Alike calls quick.lines slow.lines
+  -- So do blank ones.
+  pub alike_from_blank : IsOpened quick → IsOpened slow → OnBlank quick → OnBlank slow → positions quick ≡ positions slow
+      → Sound quick → Sound slow → Alike calls quick.lines slow.lines
+  -- What a position holds where the books showed nothing.
+  pub blank_case : BlankCase
 
 -- A console made anew over the same part and opened again is the one that was, whenever quiet answers yes: the state is in the
 -- part. Whatever was opened, blank or not, and whatever calls were made.

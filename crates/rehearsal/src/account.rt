@@ -1,4 +1,3 @@
-use crate::line::Line;
 use fault::ConsoleFault;
 
 /// The two blocks of a part on which a console is opened.
@@ -16,16 +15,9 @@ pub struct Opening {
     pub reply: Result<u32, ConsoleFault>,
 }
 
-/// The account of one console: how it was opened, and a line for each call of the list.
-#[derive(Drop)]
-pub struct Account {
-    pub opening: Opening,
-    pub lines: Vec<Line>,
-}
-
-/// The accounts of two consoles that were given the same list.
-#[derive(Drop)]
-pub struct Rehearsal {
-    pub quick: Account,
-    pub slow: Account,
+/// How the two consoles of a rehearsal were opened.
+#[derive(Clone, Copy)]
+pub struct Openings {
+    pub quick: Opening,
+    pub slow: Opening,
 }

@@ -1,5 +1,5 @@
-ghost use Rattle.console.specs.Desks.{desk, closed};
-ghost use Rattle.console.specs.Calls.{Opens};
+ghost use Rattle.console.specs.Desks.{closed};
+ghost use Rattle.console.specs.Opening.{Opens};
 ghost use Rattle.rehearsal.specs.Promises.{SameAgain};
 
 use crate::account::Seats;
@@ -13,8 +13,7 @@ pub fn reopen<P: Part + Drop>(
     console: Console<P>,
     on: Seats,
 ) -> (Console<P>, Result<u32, ConsoleFault>)
-    ensures again { Opens (closed (P.Part.means console.part)) on.first on.second result.1
-        (desk (P.Part.means result.0.part) result.0.books) }
+    ensures again { Opens (closed console.part) on.first on.second result.1 result.0 }
     // It is the console that was, if quiet answered yes.
     ensures law { SameAgain }
 {

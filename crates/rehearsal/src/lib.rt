@@ -4,9 +4,11 @@
 mod account;
 mod again;
 mod line;
+mod row;
 mod together;
 
-pub use account::{Account, Opening, Rehearsal, Seats};
+pub use account::{Opening, Openings, Seats};
 pub use again::reopen;
 pub use line::Line;
+pub use row::Row;
 pub use together::rehearse;

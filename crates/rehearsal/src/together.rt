@@ -1,19 +1,18 @@
-ghost use Rattle.std.specs.Prelude.{◌≡◌, ◌≤◌, [], length, vec_capacity, IfOk, OnErr};
-ghost use Rattle.console.specs.Desks.{desk};
-ghost use Rattle.rehearsal.specs.Accounts.{Plays, OpensOnce, Performed};
+ghost use Rattle.std.specs.Prelude.{◌≡◌};
+ghost use Rattle.rehearsal.specs.Rows.{calls_of, lines_of, quick_lines, slow_lines, other};
+ghost use Rattle.rehearsal.specs.Accounts.{run, Plays, OpensOnce, Performed};
 ghost use Rattle.rehearsal.specs.Promises.{Promise};
 ghost use Rattle.rehearsal.specs.Examples.{WorkedExamples};
 
-use crate::account::{Account, Opening, Rehearsal, Seats};
+use crate::account::{Opening, Openings, Seats};
 use crate::line::Line;
+use crate::row::{Row, Side};
 use console::{Call, Console};
 use part::Part;
-use std::alloc::{AllocError, Global};
 
 /// Opens a console, and reads the clock before and after.
 fn open_once<P: Part + Drop>(console: &mut Console<P>, on: Seats) -> Opening
-    ensures { OpensOnce (desk (P.Part.means console.old.part) console.old.books) on result
-        (desk (P.Part.means console.new.part) console.new.books) }
+    ensures { OpensOnce console.old on result console.new }
 {
     let before = console.clock();
     let reply = console.open(on.first, on.second);
@@ -26,8 +25,7 @@ fn open_once<P: Part + Drop>(console: &mut Console<P>, on: Seats) -> Opening
 
 /// Makes one call, and reads the clock before and after.
 fn perform_once<P: Part + Drop>(console: &mut Console<P>, call: Call) -> Line
-    ensures { Plays (desk (P.Part.means console.old.part) console.old.books) call result
-        (desk (P.Part.means console.new.part) console.new.books) }
+    ensures { Plays console.old call result console.new }
 {
     let before = console.clock();
     let reply = console.perform(call);
@@ -38,54 +36,46 @@ fn perform_once<P: Part + Drop>(console: &mut Console<P>, call: Call) -> Line
     }
 }
 
-/// Opens a console and makes a list of calls on it, also where the opening is refused. Room for the lines is there before.
+/// Opens a console and makes the calls of the rows on it, also where the opening is refused. Its lines go to one side of the rows.
 fn play<P: Part + Drop>(
     console: &mut Console<P>,
     on: Seats,
-    calls: &[Call],
-    mut lines: Vec<Line>,
-) -> Account
-    requires empty { lines.items ≡ [] }
-    requires room { length calls.now ≤ vec_capacity lines }
-    ensures { Performed (desk (P.Part.means console.old.part) console.old.books) on calls.now
-        result.opening result.lines.items (desk (P.Part.means console.new.part) console.new.books) }
+    rows: &mut [Row],
+    side: Side,
+) -> Opening
+    ensures account { Performed (calls_of rows.old) (run console.old on result (lines_of side rows.new) console.new) }
+    ensures calls { calls_of rows.new ≡ calls_of rows.old }
+    ensures beside { lines_of (other side) rows.new ≡ lines_of (other side) rows.old }
 {
     let opening = open_once(console, on);
-    for call in calls {
-        let line = perform_once(console, *call);
-        lines.push_reserved(line);
+    for row in rows.iter_mut() {
+        let line = perform_once(console, row.call);
+        *row = row.with(side, line);
     }
-    Account { opening, lines }
+    opening
 }
 
-/// Opens two consoles, makes one list of calls on each, and gives back both accounts. Where memory is wanting, neither is
-/// touched.
-#[tactic(auto, using(crate::proofs::Promised::promised, crate::proofs::Worked::worked_examples))]
+/// Opens two consoles, makes the calls of the rows on each, and writes both accounts into the rows.
+#[tactic(auto, using(crate::proofs::Worked::worked_examples))]
 pub fn rehearse<P: Part + Drop, Q: Part + Drop>(
-    heap: Global,
     quick: &mut Console<P>,
     slow: &mut Console<Q>,
     quick_on: Seats,
     slow_on: Seats,
-    calls: &[Call],
-) -> Result<Rehearsal, AllocError>
-    ensures quick_account { IfOk result (λ r.
-        Performed (desk (P.Part.means quick.old.part) quick.old.books) quick_on calls.now
-        r.quick.opening r.quick.lines.items (desk (P.Part.means quick.new.part) quick.new.books)) }
-    ensures slow_account { IfOk result (λ r.
-        Performed (desk (Q.Part.means slow.old.part) slow.old.books) slow_on calls.now
-        r.slow.opening r.slow.lines.items (desk (Q.Part.means slow.new.part) slow.new.books)) }
-    ensures memory { OnErr result ((quick.new ≡ quick.old) × (slow.new ≡ slow.old)) }
+    rows: &mut [Row],
+) -> Openings
+    // The calls stay as the caller wrote them.
+    ensures calls { calls_of rows.new ≡ calls_of rows.old }
+    ensures quick_account { Performed (calls_of rows.old) (run quick.old quick_on result.quick (quick_lines rows.new) quick.new) }
+    ensures slow_account { Performed (calls_of rows.old) (run slow.old slow_on result.slow (slow_lines rows.new) slow.new) }
     // What an organist is promised.
-    ensures promise { IfOk result (λ r. Promise calls.now quick_on slow_on
-        (desk (P.Part.means quick.old.part) quick.old.books) (desk (P.Part.means quick.new.part) quick.new.books)
-        (desk (Q.Part.means slow.old.part) slow.old.books) (desk (Q.Part.means slow.new.part) slow.new.books) r) }
+    ensures promise { Promise (calls_of rows.old)
+        (run quick.old quick_on result.quick (quick_lines rows.new) quick.new)
+        (run slow.old slow_on result.slow (slow_lines rows.new) slow.new) }
     ensures examples { WorkedExamples }
 {
-    let quick_lines = Vec::with_capacity(heap, calls.len())?;
-    let slow_lines = Vec::with_capacity(heap, calls.len())?;
-    Ok(Rehearsal {
-        quick: play(quick, quick_on, calls, quick_lines),
-        slow: play(slow, slow_on, calls, slow_lines),
-    })
+    Openings {
+        quick: play(quick, quick_on, rows, Side::Quick),
+        slow: play(slow, slow_on, rows, Side::Slow),
+    }
 }

@@ -2,9 +2,9 @@
 use crate::parts::part_of;
 use crate::sheet::Sheet;
 use crate::stopped::Stopped;
-use console::{Call, Console};
+use console::Console;
 use pile::Pile;
-use rehearsal::{Seats, rehearse};
+use rehearsal::{Row, Seats, rehearse};
 use script::{Reply, Request, Script, Step};
 use std::alloc::Global;
 use std::io;
@@ -17,27 +17,27 @@ pub struct Stage {
     slow: Console<Pile>,
 }
 
-// The calls of some steps, if they are nothing but calls of the list.
-fn calls_of(heap: Global, steps: &[Step]) -> Result<Option<Vec<Call>>, Stopped> {
-    let mut calls = Vec::with_capacity(heap, steps.len())?;
+// A row for each call of some steps, if they are nothing but calls of the list.
+fn rows_of(heap: Global, steps: &[Step]) -> Result<Option<Vec<Row>>, Stopped> {
+    let mut rows = Vec::with_capacity(heap, steps.len())?;
     for step in steps {
         match step.request {
-            Request::Call(call) => calls.push(call)?,
+            Request::Call(call) => rows.push(Row::of(call))?,
             _ => return Ok(None),
         }
     }
-    Ok(Some(calls))
+    Ok(Some(rows))
 }
 
-// The seats and the calls of a script that is one open and then a list of calls.
-fn list_of(heap: Global, steps: &[Step]) -> Result<Option<(Seats, Seats, Vec<Call>)>, Stopped> {
+// The seats and the rows of a script that is one open and then a list of calls.
+fn list_of(heap: Global, steps: &[Step]) -> Result<Option<(Seats, Seats, Vec<Row>)>, Stopped> {
     let Some((first, rest)) = steps.split_first() else {
         return Ok(None);
     };
     let Request::Open(quick, slow) = first.request else {
         return Ok(None);
     };
-    Ok(calls_of(heap, rest)?.map(|calls| (quick, slow, calls)))
+    Ok(rows_of(heap, rest)?.map(|rows| (quick, slow, rows)))
 }
 
 impl Stage {
@@ -75,26 +75,23 @@ impl Stage {
         steps: &[Step],
         quick: Seats,
         slow: Seats,
-        calls: &[Call],
+        rows: &mut [Row],
     ) -> Result<(), Stopped> {
-        let heard = rehearse(
-            self.heap,
-            &mut self.quick,
-            &mut self.slow,
-            quick,
-            slow,
-            calls,
-        )?;
+        let opened = rehearse(&mut self.quick, &mut self.slow, quick, slow, rows);
         let Some((first, rest)) = steps.split_first() else {
             return Ok(());
         };
-        let opened = (heard.quick.opening.reply, heard.slow.opening.reply);
-        sheet.add(first, Reply::Opened(opened.0), Reply::Opened(opened.1))?;
-        for (step, (a, b)) in rest
-            .iter()
-            .zip(heard.quick.lines.iter().zip(heard.slow.lines.iter()))
-        {
-            sheet.add(step, Reply::Called(a.reply), Reply::Called(b.reply))?;
+        sheet.add(
+            first,
+            Reply::Opened(opened.quick.reply),
+            Reply::Opened(opened.slow.reply),
+        )?;
+        for (step, row) in rest.iter().zip(rows.iter()) {
+            sheet.add(
+                step,
+                Reply::Called(row.quick.reply),
+                Reply::Called(row.slow.reply),
+            )?;
         }
         Ok(())
     }
@@ -103,8 +100,8 @@ impl Stage {
     pub fn play(&mut self, rt: &HostRuntime, text: &[u8], steps: &[Step]) -> Result<(), Stopped> {
         let mut sheet = Sheet::new(self.heap, text, io::writer(rt))?;
         match list_of(self.heap, steps)? {
-            Some((quick, slow, calls)) => {
-                self.play_list(&mut sheet, steps, quick, slow, calls.as_slice())?;
+            Some((quick, slow, mut rows)) => {
+                self.play_list(&mut sheet, steps, quick, slow, rows.as_mut_slice())?;
             }
             None => {
                 for step in steps {

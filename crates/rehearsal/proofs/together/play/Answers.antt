@@ -1,26 +1,15 @@
-use Rattle.std.proofs.Common.{List, length, refl, ap, ◌∙◌, arith}
-use Rattle.std.proofs.lemmas.List.{take_more}
-use Rattle.console.specs.Desks.{desk}
-use Rattle.rehearsal.specs.declared.line.Line.{Line}
-use Rattle.rehearsal.proofs.Playing.{played_none, played_next}
+use Rattle.std.proofs.Common.{◌<◌, length, refl, arith}
+use Rattle.rehearsal.proofs.Playing.{played_none, turn}
 use Rattle.rehearsal.proofs.together.play.Goals as goal
 
-pub loop-call-init : goal.loop-call-init
-loop-call-init g c = record {
-  played = played_none _ c.args.lines.items c.requires.empty;
-  written = c.args.lines.ok.0 ∙ ap (λ (x : List Line). length x) c.requires.empty;
-  room = refl;
-}
+pub loop-row-init : goal.loop-row-init
+loop-row-init g c = record { played = played_none _ _ refl; calls = refl; beside = refl }
 
-pub loop-call-preserved : goal.loop-call-preserved
-loop-call-preserved g c =
-    let start = c.open_once-opening.new.console in
-    let end = c.perform_once-line.new.console in
-    let one_more = take_more c.args.calls.now c.loop-call.call-index _ c.loop-call-test.true in
-    record {
-      played =
-          played_next {d = desk (g.P.Part.means start.part) start.books} {e = desk (g.P.Part.means end.part) end.books}
-          {log = c.push_reserved.new.self.items} one_more c.push_reserved.ensures.items c.loop-call.invariant.played c.perform_once-line.ensures;
-      written = omega arith;
-      room = c.push_reserved.ensures.capacity ∙ c.loop-call.invariant.room;
-    }
+pub loop-row-preserved : goal.loop-row-preserved
+loop-row-preserved g c =
+    let i = c.loop-row.invariant in
+    let here : c.loop-row.row-index < length c.loop-row.rows = omega (arith, c.loop-row.auto.rows, c.loop-row-test.true) in
+    let t = turn c.args.side c.args.rows.now c.loop-row.rows c.loop-row.row-index _ c.perform_once-line.result c.with.result
+    c.open_once-opening.new.console c.loop-row.console c.perform_once-line.new.console
+    c.with.ensures here i.played i.calls i.beside c.perform_once-line.ensures in
+    record { played = t.played; calls = t.calls; beside = t.beside }

@@ -3,7 +3,7 @@ use Rattle.part.specs.declared.answers.Shape.{Shape}
 use Rattle.part.specs.Meaning.{Meaning}
 use Rattle.console.specs.Waiting.{let_end, ends_worn, is_worn}
 use Rattle.console.proofs.Ending.{RunsOn, time_left, running, not_running, goes_on, ended, some_left, left_of}
-use Rattle.console.proofs.wait.let_end.Goals as goal
+use Rattle.console.proofs.waiting.let_end.Goals as goal
 
 pub returns-in_default : goal.returns-in_default
 returns-in_default g c =

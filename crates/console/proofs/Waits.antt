@@ -16,10 +16,10 @@ use Rattle.fault.specs.declared.faults.ConsoleFault.{ConsoleFault}
 use Rattle.console.specs.declared.answers.Answer.{Answer}
 use Rattle.console.specs.declared.call.Call.TheVariants.{Wait}
 use Rattle.console.specs.Desks.{Desk, opened}
-use Rattle.console.specs.Waiting.{wait_time, let_end_by, let_end, ends_worn_by, ends_worn, is_worn, pass_worn}
-use Rattle.console.specs.Calls.{wait_report, done, Waits, Replies}
-use Rattle.rehearsal.proofs.Tables.{Table, look, after, tells}
-use Rattle.rehearsal.proofs.Keeping.{Rest, ready, erasing, spoilt, Keeps, Goes, keeps_ticked, keeps_for}
+use Rattle.console.specs.Waiting.{wait_time, let_end_by, let_end, ends_worn_by, ends_worn, is_worn, pass_worn, waited as wait_report, Waits}
+use Rattle.console.specs.Calls.{Replies}
+use Rattle.console.proofs.Tables.{Table, look, after, tells}
+use Rattle.console.proofs.Keeping.{Rest, ready, erasing, spoilt, Keeps, Goes, keeps_ticked, keeps_for}
 
 -- A book that is not spoilt now is as spoilt as it was.
 not_spoilt : (c : Pair) → spoilt_if false c ≡ c
@@ -198,11 +198,9 @@ module _ (o : Meaning) (a b : ℕ) (f : Table) (m : Meaning) (c : Pair) (k : Kee
       (sym (ap (λ (v : Bool). spoilt_if (v && w) c) t ∙ not_spoilt c)) k
 
   -- what it answers
-  wait_told : (us : ℕ) (t : Bool) → leb us longest ≡ t → look (done (wait_report m us)) ≡ tells c.positions f (Wait us)
-  wait_told us true t =
-      ap (λ (x : Result ℕ ConsoleFault). look (done x)) (cond-true (leb us longest) _ _ t) ∙ sym (cond-true (leb us longest) _ _ t)
-  wait_told us false t =
-      ap (λ (x : Result ℕ ConsoleFault). look (done x)) (cond-false (leb us longest) _ _ t) ∙ sym (cond-false (leb us longest) _ _ t)
+  wait_told : (us : ℕ) (t : Bool) → leb us longest ≡ t → look (wait_report m us) ≡ tells c.positions f (Wait us)
+  wait_told us true t = ap look (cond-true (leb us longest) _ _ t) ∙ sym (cond-true (leb us longest) _ _ t)
+  wait_told us false t = ap look (cond-false (leb us longest) _ _ t) ∙ sym (cond-false (leb us longest) _ _ t)
 
 -- A wait, accepted or refused.
 pub wait_goes : (o : Meaning) (a b : ℕ) (f : Table) (m : Meaning) (c : Pair) (us : ℕ) (r : Result Answer ConsoleFault) (e : Desk)
@@ -210,5 +208,4 @@ pub wait_goes : (o : Meaning) (a b : ℕ) (f : Table) (m : Meaning) (c : Pair) (
 unfolding Waits
 wait_goes o a b f m c us r e l k x =
     waited o a b f m c k us r e (after_pass m us) (spoilt_if (pass_worn m us) c) (wait_keeps o a b f m c k us (leb us longest) refl)
-    x.does.1
-    (ap look (x.says ∙ ap done x.does.0) ∙ wait_told o a b f m c k us (leb us longest) refl)
+    x.1 (ap look x.0 ∙ wait_told o a b f m c k us (leb us longest) refl)

@@ -4,7 +4,7 @@ use Rattle.std.proofs.lemmas.Bool.{true≢false}
 use Rattle.part.specs.Meaning.{Meaning}
 use Rattle.console.specs.Looking.{searched}
 use Rattle.console.proofs.Seeking.{searched_none, searched_past, searched_stops, searched_finds}
-use Rattle.console.proofs.next.search.Goals as goal
+use Rattle.console.proofs.looking.search.Goals as goal
 
 none_is : (o : Option ℕ) → is_some o ≡ false → o ≡ None
 none_is None e = refl

@@ -1,6 +1,6 @@
 use Rattle.std.proofs.Common.{◌≡◌, ◌-◌, ◌≤◌, None, Ok}
 use Rattle.console.specs.Looking.{searched}
-use Rattle.console.proofs.next.search.Given as goal
+use Rattle.console.proofs.looking.search.Given as goal
 
 abbrev pub invariant-loop-q : goal.invariant-loop-q
 invariant-loop-q g l =

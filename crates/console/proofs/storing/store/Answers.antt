@@ -4,7 +4,7 @@ use Rattle.fault.specs.declared.faults.PartFault.{PartFault}
 use Rattle.book.specs.Views.{pair_of}
 use Rattle.console.specs.Storing.{Stored}
 use Rattle.console.proofs.Calling.{store_stopped, store_gone}
-use Rattle.console.proofs.store.store.Goals as goal
+use Rattle.console.proofs.storing.store.Goals as goal
 
 pub returns-in_err-page : goal.returns-in_err-page
 returns-in_err-page g c =

@@ -1,6 +1,6 @@
 -- What set and clear do to the books.
 use Rattle.std.proofs.Common.{◌≡◌, ℕ, ◌+◌, ◌<◌, ◌≤◌, Bool, true, false, cond, eqb, leb, List, length, get_or, is_some, Some, None, Ok, Err, Option, Result, sym, refl, ap, ◌∙◌, subst, inl, inr, arith}
-use Rattle.std.specs.Prelude.{is_ok}
+use Rattle.std.specs.Prelude.{is_ok, is_none, MatchResult}
 use Rattle.std.proofs.lemmas.Bool.{cases_Bool, ltb-true, leb-true, and_parts, and_from, eqb-true, lt-leb, cond-true, cond-false, both_ways, eqb-false}
 use Rattle.fault.specs.declared.cause.Cause.{Cause}
 use Rattle.fault.specs.declared.cause.Cause.TheVariants.{PositionOutside, StopOutside}
@@ -21,15 +21,16 @@ use Rattle.fault.specs.declared.faults.ConsoleFault.{ConsoleFault}
 use Rattle.console.specs.declared.answers.Said.{Said}
 use Rattle.console.specs.declared.answers.Said.TheVariants.{Done}
 use Rattle.console.specs.Desks.{Desk, opened, moved}
-use Rattle.console.specs.Faults.{no_place}
+use Rattle.console.specs.Faults.{no_place, reported, Refuses}
+use Rattle.console.specs.Checks.{fits}
 use Rattle.console.specs.Waiting.{let_end, ends_worn}
-use Rattle.console.specs.Storing.{is_none, fits, Changes, Turned, Writes, reported, Stored, StoresOpen, StoresIf, Stores}
+use Rattle.console.specs.Storing.{Changes, Turned, Writes, Stored, StoresOn, Stores}
 use Rattle.console.specs.declared.answers.Answer.{Answer}
 use Rattle.console.specs.declared.call.Call.TheVariants.{Set, Clear}
-use Rattle.console.specs.Calls.{done, Replies}
+use Rattle.console.specs.Calls.{Replies}
 use Rattle.console.proofs.Ways.{Went, empty, line, change, spoilt as refused, went}
-use Rattle.rehearsal.proofs.Tables.{Table, look, is_position, outside}
-use Rattle.rehearsal.proofs.Keeping.{Rest, ready, erasing, spoilt, InBlocks, Keeps, keeps_ticked, keeps_for, Goes}
+use Rattle.console.proofs.Tables.{Table, look, is_position, outside}
+use Rattle.console.proofs.Keeping.{Rest, ready, erasing, spoilt, InBlocks, Keeps, keeps_ticked, keeps_for, Goes}
 
 -- the table with something new at p, if it was accepted
 abbrev pub put : ℕ → Option ℕ → Bool → Table → Table
@@ -248,94 +249,79 @@ abbrev pub stored : ℕ → ℕ → Option ℕ → Result Said ConsoleFault
 stored n p new = cond (is_position n p) (cond (fits new) (Ok Done) (Err (no_place StopOutside p))) (outside p)
 
 -- What set or clear did, its microseconds aside.
-pub record Saved (o : Meaning) (a b : ℕ) (f : Table) (c : Pair) (p : ℕ) (new : Option ℕ) (q : Result ℕ ConsoleFault) (e : Desk) : Type 0 where
+pub record Saved (o : Meaning) (a b : ℕ) (f : Table) (c : Pair) (p : ℕ) (new : Option ℕ) (r : Result Answer ConsoleFault) (e : Desk) : Type 0 where
   pub books : Pair
   pub leaves : e ≡ opened e.part books
-  pub keeps : Keeps o a b (put p new (is_ok q) f) e.part books
-  pub sure : worn o a ≡ false → worn o b ≡ false → look (done q) ≡ stored c.positions p new
+  pub keeps : Keeps o a b (put p new (is_ok r) f) e.part books
+  pub sure : worn o a ≡ false → worn o b ≡ false → look r ≡ stored c.positions p new
 
 stops_fit : (new : Option ℕ) → fits new ≡ true → StopsFit new
 stops_fit None t = tt
 stops_fit (Some stops) t = ltb-true stops 9223372036854775808 t
 
-ok_reported : (us p : ℕ) (r : Result (Unit {0}) PartFault) → is_ok (reported us p r) ≡ is_ok r
+-- an accepted one says that it is done
+abbrev done_in : ℕ → Unit {0} → Answer
+done_in us _ = record { said = Done; us = us }
+
+ok_reported : (us p : ℕ) (r : Result (Unit {0}) PartFault) → is_ok (reported p (done_in us) r) ≡ is_ok r
 ok_reported us p (Ok u) = refl
 ok_reported us p (Err fault) = refl
 
 module _ (o : Meaning) (a b : ℕ) (f : Table) (m : Meaning) (c : Pair) (p : ℕ) (new : Option ℕ) (h : Keeps o a b f m c)
     (ended : Keeps o a b f (let_end m) (spoilt_if (ends_worn m) c)) (idle : (let_end m).erasure ≡ None) where
-  saved_open : is_position c.positions p ≡ true → fits new ≡ true → (q : Result ℕ ConsoleFault) (e : Desk) → StoresOpen m c p new q e
-      → Saved o a b f c p new q e
+  saved_open : is_position c.positions p ≡ true → fits new ≡ true → (r : Result Answer ConsoleFault) (e : Desk) → StoresOn (opened m c) c p new r e
+      → Saved o a b f c p new r e
   unfolding Stored
-  saved_open t u q e x =
+  saved_open t u r e x =
       let at_page = and_parts (leb 1 p) (leb p c.positions) t in
       let g = put_on o a b f (let_end m) (spoilt_if (ends_worn m) c) p new ended idle (leb-true 1 p at_page.0) (leb-true p c.positions at_page.1)
-      (stops_fit new u) x.answer x.part x.books x.stored in
-      let us : ℕ = moved m x.part in
-      subst (λ (v : Result ℕ ConsoleFault). Saved o a b f c p new v e) (sym x.says)
-      (subst (λ (d : Desk). Saved o a b f c p new (reported us p x.answer) d) (sym x.leaves)
+      (stops_fit new u) x.answer e.part x.books x.stored in
+      let us : ℕ = moved m e.part in
+      subst (λ (v : Result Answer ConsoleFault). Saved o a b f c p new v e) (sym x.says)
       (record {
         books = x.books;
-        leaves = refl;
-        keeps = subst (λ (w : Bool). Keeps o a b (put p new w f) x.part x.books) (sym (ok_reported us p x.answer)) g.keeps;
-        sure = λ i j. ap (λ (r : Result (Unit {0}) PartFault). look (done (reported us p r))) (g.sure i j)
+        leaves = x.leaves;
+        keeps = subst (λ (w : Bool). Keeps o a b (put p new w f) e.part x.books) (sym (ok_reported us p x.answer)) g.keeps;
+        sure = λ i j. ap (λ (v : Result (Unit {0}) PartFault). look (reported p (done_in us) v)) (g.sure i j)
             ∙ sym (cond-true (is_position c.positions p) _ _ t ∙ cond-true (fits new) _ _ u);
-      }))
+      })
 
-  saved_not : (cause : Cause) (q : Result ℕ ConsoleFault) (e : Desk) → q ≡ Err (no_place cause p) → e ≡ opened m c
-      → ◌≡◌ {A = Result Said ConsoleFault} (Err (no_place cause p)) (stored c.positions p new) → Saved o a b f c p new q e
-  saved_not cause q e i j s =
-      subst (λ (v : Result ℕ ConsoleFault). Saved o a b f c p new v e) (sym i)
-      (subst (λ (d : Desk). Saved o a b f c p new (Err (no_place cause p)) d) (sym j)
+  saved_not : (cause : Cause) (r : Result Answer ConsoleFault) (e : Desk) → Refuses (opened m c) (no_place cause p) r e
+      → ◌≡◌ {A = Result Said ConsoleFault} (Err (no_place cause p)) (stored c.positions p new) → Saved o a b f c p new r e
+  saved_not cause r e x s =
+      subst (λ (v : Result Answer ConsoleFault). Saved o a b f c p new v e) (sym x.0)
+      (subst (λ (d : Desk). Saved o a b f c p new (Err (no_place cause p)) d) (sym x.1)
       (record { books = c; leaves = refl; keeps = h; sure = λ _ _. s }))
 
-  abbrev If : Option Cause → Result ℕ ConsoleFault → Desk → Type 0
-  If cause q e = StoresIf cause (opened m c) (Some c) p new q e
+  abbrev If : Result Pair Cause → Result Answer ConsoleFault → Desk → Type 0
+  If q r e = MatchResult q (λ b. StoresOn (opened m c) b p new r e) (λ cause. Refuses (opened m c) (no_place cause p) r e)
 
-  pub saved : (q : Result ℕ ConsoleFault) (e : Desk) → Stores (opened m c) p new q e → Saved o a b f c p new q e
+  pub saved : (r : Result Answer ConsoleFault) (e : Desk) → Stores (opened m c) p new r e → Saved o a b f c p new r e
   unfolding Stores
-  saved q e x = elim (cases_Bool (is_position c.positions p)) [
+  saved r e x = elim (cases_Bool (is_position c.positions p)) [
     | inr t ↦
-        let y : If (Some PositionOutside) q e = subst (λ (w : Option Cause). If w q e) (cond-false (is_position c.positions p) _ _ t) x in
-        saved_not PositionOutside q e y.0 y.1 (sym (cond-false (is_position c.positions p) _ _ t))
+        let y : If (Err PositionOutside) r e = subst (λ (w : Result Pair Cause). If w r e) (cond-false (is_position c.positions p) _ _ t) x in
+        saved_not PositionOutside r e y (sym (cond-false (is_position c.positions p) _ _ t))
     | inl t ↦
-        let y : If (cond (fits new) None (Some StopOutside)) q e =
-        subst (λ (w : Option Cause). If w q e) (cond-true (is_position c.positions p) _ _ t) x in
+        let y : If (cond (fits new) (Ok c) (Err StopOutside)) r e =
+        subst (λ (w : Result Pair Cause). If w r e) (cond-true (is_position c.positions p) _ _ t) x in
         elim (cases_Bool (fits new)) [
           | inr u ↦
-              let z : If (Some StopOutside) q e = subst (λ (w : Option Cause). If w q e) (cond-false (fits new) _ _ u) y in
-              saved_not StopOutside q e z.0 z.1 (sym (cond-true (is_position c.positions p) _ _ t ∙ cond-false (fits new) _ _ u))
-          | inl u ↦ saved_open t u q e (subst (λ (w : Option Cause). If w q e) (cond-true (fits new) _ _ u) y)
+              let z : If (Err StopOutside) r e = subst (λ (w : Result Pair Cause). If w r e) (cond-false (fits new) _ _ u) y in
+              saved_not StopOutside r e z (sym (cond-true (is_position c.positions p) _ _ t ∙ cond-false (fits new) _ _ u))
+          | inl u ↦ saved_open t u r e (subst (λ (w : Result Pair Cause). If w r e) (cond-true (fits new) _ _ u) y)
         ]
   ]
-
-ok_done : (q : Result ℕ ConsoleFault) → is_ok (done q) ≡ is_ok q
-ok_done (Ok us) = refl
-ok_done (Err fault) = refl
 
 -- set and clear as calls of a list
 module _ (o : Meaning) (a b : ℕ) (f : Table) (m : Meaning) (c : Pair) (h : Keeps o a b f m c)
     (ended : Keeps o a b f (let_end m) (spoilt_if (ends_worn m) c)) (idle : (let_end m).erasure ≡ None) where
   pub set_goes : (p stops : ℕ) (r : Result Answer ConsoleFault) (e : Desk) → Replies (opened m c) (Set p stops) r e → Goes o a b f m c (Set p stops) r e
   set_goes p stops r e x =
-      let s = saved o a b f m c p (Some stops) h ended idle x.answer e x.does in
-      subst (λ (v : Result Answer ConsoleFault). Goes o a b f m c (Set p stops) v e) (sym x.says) (record {
-        books = s.books;
-        leaves = s.leaves;
-        keeps = subst (λ (w : Bool). Keeps o a b (put p (Some stops) w f) e.part s.books) (sym (ok_done x.answer)) s.keeps;
-        looks = λ never. absurd never;
-        sure = s.sure;
-        prompt = λ never. absurd never;
-      })
+      let s = saved o a b f m c p (Some stops) h ended idle r e x in
+      record { books = s.books; leaves = s.leaves; keeps = s.keeps; looks = λ never. absurd never; sure = s.sure; prompt = λ never. absurd never }
 
   pub clear_goes : (p : ℕ) (r : Result Answer ConsoleFault) (e : Desk) → Replies (opened m c) (Clear p) r e → Goes o a b f m c (Clear p) r e
   clear_goes p r e x =
-      let s = saved o a b f m c p None h ended idle x.answer e x.does in
-      subst (λ (v : Result Answer ConsoleFault). Goes o a b f m c (Clear p) v e) (sym x.says) (record {
-        books = s.books;
-        leaves = s.leaves;
-        keeps = subst (λ (w : Bool). Keeps o a b (put p None w f) e.part s.books) (sym (ok_done x.answer)) s.keeps;
-        looks = λ never. absurd never;
-        sure = s.sure;
-        prompt = λ never. absurd never;
-      })
+      let s = saved o a b f m c p None h ended idle r e x in
+      record { books = s.books; leaves = s.leaves; keeps = s.keeps; looks = λ never. absurd never; sure = s.sure; prompt = λ never. absurd never }

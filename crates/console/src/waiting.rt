@@ -1,10 +1,9 @@
 // Waiting.
 ghost use Rattle.std.specs.Prelude.{◌≡◌};
 ghost use Rattle.part.specs.Calls.{progress, passed};
-ghost use Rattle.console.specs.Desks.{desk};
-ghost use Rattle.console.specs.Waiting.{let_end, ends_worn, is_worn};
-ghost use Rattle.console.specs.Calls.{Waits};
+ghost use Rattle.console.specs.Waiting.{let_end, ends_worn, is_worn, Waits};
 
+use crate::answers::{Answer, Said};
 use crate::console::Console;
 use crate::faults::refused;
 use fault::{Cause, ConsoleFault};
@@ -46,13 +45,16 @@ pub(crate) fn let_end<P: Part>(part: &mut P) -> bool
 
 impl<P: Part + Drop> Console<P> {
     /// Lets n microseconds pass, and reports them. A book whose erasure ends as worn in this time is spoilt.
-    pub fn wait(&mut self, us: u32) -> Result<u32, ConsoleFault>
-        ensures { Waits (desk (P.Part.means self.old.part) self.old.books) us result (desk (P.Part.means self.new.part) self.new.books) }
+    pub fn wait(&mut self, us: u32) -> Result<Answer, ConsoleFault>
+        ensures { Waits self.old us result self.new }
     {
         let books = self.books.ok_or(refused(Cause::OutOfTurn, 0))?;
         let before = self.part.clock();
         let progress = self.part.pass(us)?;
         self.books = Some(books.spoilt_if(ended_worn(progress)));
-        Ok(self.since(before))
+        Ok(Answer {
+            said: Said::Done,
+            us: self.since(before),
+        })
     }
 }

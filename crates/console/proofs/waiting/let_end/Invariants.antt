@@ -1,7 +1,7 @@
 use Rattle.std.proofs.Common.{◌≡◌}
 use Rattle.console.specs.Waiting.{let_end, ends_worn}
 use Rattle.console.proofs.Ending.{RunsOn, time_left}
-use Rattle.console.proofs.wait.let_end.Given as goal
+use Rattle.console.proofs.waiting.let_end.Given as goal
 
 abbrev pub invariant-loop-ended : goal.invariant-loop-ended
 invariant-loop-ended g l =

@@ -1,8 +1,9 @@
 -- What recall and next answer on a console that keeps its books, and that they leave it as it was.
 use Rattle.std.proofs.Common.{◌≡◌, ℕ, zero, suc, ◌+◌, ◌-◌, ◌<◌, ◌≤◌, Bool, true, false, cond, leb, is_some, Some, None, Ok, Err, Option, Result, sym, refl, ap, ◌∙◌, subst, ap₂, arith}
-use Rattle.std.specs.Prelude.{is_ok}
+use Rattle.std.specs.Prelude.{is_ok, MatchResult}
 use Rattle.std.proofs.lemmas.Bool.{and_parts, ne_eqb, leb-true, cond-true, cond-false}
 use Rattle.fault.specs.declared.cause.Cause.TheVariants.{PositionOutside}
+use Rattle.fault.specs.declared.faults.PartFault.{PartFault}
 use Rattle.part.specs.Meaning.{Erasure, Meaning, with_erasure, ticked, Lawful}
 use Rattle.part.specs.Calls.{Took, hides, can_hold, turned, HeldBy, Held, gone_on}
 use Rattle.part.proofs.Clocks.{ticked_none}
@@ -15,8 +16,6 @@ use Rattle.book.proofs.Seats.{Seated}
 use Rattle.book.proofs.Ground.{seated_on}
 use Rattle.book.proofs.Effects.{reads}
 use Rattle.fault.specs.declared.faults.ConsoleFault.{ConsoleFault}
-use Rattle.console.specs.declared.answers.Recalled.{Recalled}
-use Rattle.console.specs.declared.answers.Found.{Found}
 use Rattle.console.specs.declared.answers.Said.{Said}
 use Rattle.console.specs.declared.answers.Said.TheVariants.{Shows, Finds}
 use Rattle.console.specs.declared.answers.Answer.{Answer}
@@ -24,12 +23,12 @@ use Rattle.console.specs.declared.call.Call.{Call}
 use Rattle.console.specs.declared.call.Call.TheVariants.{Set, Clear, Recall, Next, Wait}
 use Rattle.part.specs.Neighbours.{elapsed}
 use Rattle.console.specs.Desks.{Desk, opened, moved}
-use Rattle.console.specs.Faults.{no_place}
-use Rattle.console.specs.Looking.{searched, filled_at, or_else, recalled, found, RecallsIf, Recalls, NextsIf, Nexts}
-use Rattle.console.specs.Calls.{shows, finds, Replies}
-use Rattle.rehearsal.specs.Promises.{OnlyLooks, Reports}
-use Rattle.rehearsal.proofs.Tables.{Table, look, after, filled, or_then, nearest, is_position, tells}
-use Rattle.rehearsal.proofs.Keeping.{Rest, ready, erasing, spoilt, Keeps, Goes, keeps_ticked, keeps_for}
+use Rattle.console.specs.Faults.{no_place, reported, Refuses}
+use Rattle.console.specs.Looking.{searched, filled_at, or_else, shows, shown, finds, found, Looks, Recalls, Nexts}
+use Rattle.console.specs.Calls.{Replies}
+use Rattle.console.specs.Showing.{OnlyLooks, Reports}
+use Rattle.console.proofs.Tables.{Table, look, after, filled, or_then, nearest, is_position, tells}
+use Rattle.console.proofs.Keeping.{Rest, ready, erasing, spoilt, Keeps, Goes, keeps_ticked, keeps_for}
 
 -- What a look at a part finds: each page of the current book as it stands, in at most 15 microseconds.
 record Glimpse (m : Meaning) (c : Pair) (held n : Meaning) : Type 0 where
@@ -81,7 +80,7 @@ glimpse m c held n l s (erasing left i f) h g = glimpse_held m c held n left s i
 glimpse m c held n l s (spoilt i f w) h g = glimpse_idle m c held n l s i h g
 
 -- A look leaves the table as it is.
-after_look : (call : Call) → OnlyLooks call → (accepted : Bool) (f : Table) (p : ℕ) → after call accepted f p ≡ f p
+pub after_look : (call : Call) → OnlyLooks call → (accepted : Bool) (f : Table) (p : ℕ) → after call accepted f p ≡ f p
 after_look (Set q stops) x t f p = absurd x
 after_look (Clear q) x t f p = absurd x
 after_look (Recall q) x true f p = refl
@@ -125,19 +124,28 @@ module _ (o : Meaning) (a b : ℕ) (f : Table) (m : Meaning) (c : Pair) (lawful 
       looked call r e time x h (i ∙ ap (λ (y : Meaning). opened y c) j) (ap look t ∙ u)
       (subst (Reports time) (sym t) (ap (moved m) j ∙ passed))
 
+  -- what a look leaves of the desk
+  leaves : (p : ℕ) (sees : Meaning → Result Said PartFault) (r : Result Answer ConsoleFault) (e : Desk) (x : Looks (opened m c) p sees r e)
+      → (e.part ≡ gone_on x.held) × (e ≡ opened e.part c)
+  leaves p sees r e x =
+      let i : e.part ≡ gone_on x.held = ap (λ (d : Desk). d.part) x.leaves in
+      (i, x.leaves ∙ ap (λ (n : Meaning). opened n c) (sym i))
+
   -- a recall, by whether there is such a position
-  recall_by : (p : ℕ) (q : Result Recalled ConsoleFault) (r : Result Answer ConsoleFault) (e : Desk) (t : Bool) → is_position c.positions p ≡ t
-      → r ≡ shows q → RecallsIf (cond t None (Some PositionOutside)) (opened m c) (Some c) p q e → Goes o a b f m c (Recall p) r e
-  recall_by p q r e true t i x =
+  recall_by : (p : ℕ) (r : Result Answer ConsoleFault) (e : Desk) (t : Bool) → is_position c.positions p ≡ t
+      → MatchResult (cond t (Ok c) (Err PositionOutside)) (λ b. Looks (opened m c) p (shown b p) r e) (λ cause. Refuses (opened m c) (no_place cause p) r e)
+      → Goes o a b f m c (Recall p) r e
+  recall_by p r e true t x =
       let l = and_parts (leb 1 p) (leb p c.positions) t in
       let low : 1 ≤ p = leb-true 1 p l.0 in
       let high : p ≤ c.positions = leb-true p c.positions l.1 in
-      let g = glimpse m c x.looks.held x.part lawful k.seated k.rest x.looks.holds x.looks.goes in
-      let seen : x.seen ≡ Ok (f p) = x.looks.sees ∙ ap stops_of (g.page p high) ∙ ap Ok (k.shows p low high) in
-      accepted (Recall p) r e (Shows (f p)) g.time x.part tt g.short g.is x.leaves
-      (i ∙ ap shows (x.says ∙ ap (recalled (moved m x.part) p) seen)) (sym (cond-true (is_position c.positions p) _ _ t))
-  recall_by p q r e false t i x =
-      left_alone (Recall p) r e (no_place PositionOutside p) tt x.1 (i ∙ ap shows x.0) (sym (cond-false (is_position c.positions p) _ _ t))
+      let i = leaves p (shown c p) r e x in
+      let g = glimpse m c x.held e.part lawful k.seated k.rest x.holds i.0 in
+      let seen : shown c p x.held ≡ Ok (Shows (f p)) = ap shows (g.page p high) ∙ ap (λ (s : Option ℕ). Ok (Shows s)) (k.shows p low high) in
+      accepted (Recall p) r e (Shows (f p)) g.time e.part tt g.short g.is i.1
+      (x.says ∙ ap (reported p (λ said. record { said = said; us = moved m e.part })) seen) (sym (cond-true (is_position c.positions p) _ _ t))
+  recall_by p r e false t x =
+      left_alone (Recall p) r e (no_place PositionOutside p) tt x.1 x.0 (sym (cond-false (is_position c.positions p) _ _ t))
 
   -- the search on the part goes as on the table
   searched_all : (held : Meaning)
@@ -160,26 +168,28 @@ module _ (o : Meaning) (a b : ℕ) (f : Table) (m : Meaning) (c : Pair) (lawful 
       both (Some q) y = refl
 
   -- a next, by whether there is such a position
-  next_by : (p : ℕ) (q : Result Found ConsoleFault) (r : Result Answer ConsoleFault) (e : Desk) (t : Bool) → leb p c.positions ≡ t
-      → r ≡ finds q → NextsIf (cond t None (Some PositionOutside)) (opened m c) (Some c) p q e → Goes o a b f m c (Next p) r e
-  next_by p q r e true t i x =
+  next_by : (p : ℕ) (r : Result Answer ConsoleFault) (e : Desk) (t : Bool) → leb p c.positions ≡ t
+      → MatchResult (cond t (Ok c) (Err PositionOutside)) (λ b. Looks (opened m c) p (found b p) r e) (λ cause. Refuses (opened m c) (no_place cause p) r e)
+      → Goes o a b f m c (Next p) r e
+  next_by p r e true t x =
       let high : p ≤ c.positions = leb-true p c.positions t in
-      let g = glimpse m c x.looks.held x.part lawful k.seated k.rest x.looks.holds x.looks.goes in
-      let seen : x.seen ≡ Ok (nearest f p (c.positions - p)) =
-      x.looks.sees ∙ searched_all x.looks.held g.page p (c.positions - p) (omega arith) in
-      accepted (Next p) r e (Finds (nearest f p (c.positions - p))) g.time x.part tt g.short g.is x.leaves
-      (i ∙ ap finds (x.says ∙ ap (found (moved m x.part) p) seen)) (sym (cond-true (leb p c.positions) _ _ t))
-  next_by p q r e false t i x =
-      left_alone (Next p) r e (no_place PositionOutside p) tt x.1 (i ∙ ap finds x.0) (sym (cond-false (leb p c.positions) _ _ t))
+      let i = leaves p (found c p) r e x in
+      let g = glimpse m c x.held e.part lawful k.seated k.rest x.holds i.0 in
+      let seen : found c p x.held ≡ Ok (Finds (nearest f p (c.positions - p))) =
+      ap finds (searched_all x.held g.page p (c.positions - p) (omega arith)) in
+      accepted (Next p) r e (Finds (nearest f p (c.positions - p))) g.time e.part tt g.short g.is i.1
+      (x.says ∙ ap (reported p (λ said. record { said = said; us = moved m e.part })) seen) (sym (cond-true (leb p c.positions) _ _ t))
+  next_by p r e false t x =
+      left_alone (Next p) r e (no_place PositionOutside p) tt x.1 x.0 (sym (cond-false (leb p c.positions) _ _ t))
 
 -- A recall, accepted or refused.
 pub recall_goes : (o : Meaning) (a b : ℕ) (f : Table) (m : Meaning) (c : Pair) (p : ℕ) (r : Result Answer ConsoleFault) (e : Desk)
     → Lawful m → Keeps o a b f m c → Replies (opened m c) (Recall p) r e → Goes o a b f m c (Recall p) r e
 unfolding Recalls
-recall_goes o a b f m c p r e l k x = recall_by o a b f m c l k p x.answer r e (is_position c.positions p) refl x.says x.does
+recall_goes o a b f m c p r e l k x = recall_by o a b f m c l k p r e (is_position c.positions p) refl x
 
 -- A next, accepted or refused.
 pub next_goes : (o : Meaning) (a b : ℕ) (f : Table) (m : Meaning) (c : Pair) (p : ℕ) (r : Result Answer ConsoleFault) (e : Desk)
     → Lawful m → Keeps o a b f m c → Replies (opened m c) (Next p) r e → Goes o a b f m c (Next p) r e
 unfolding Nexts
-next_goes o a b f m c p r e l k x = next_by o a b f m c l k p x.answer r e (leb p c.positions) refl x.says x.does
+next_goes o a b f m c p r e l k x = next_by o a b f m c l k p r e (leb p c.positions) refl x

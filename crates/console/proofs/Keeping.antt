@@ -11,10 +11,9 @@ pub use Rattle.book.proofs.Opening.{Rest, ready, erasing, spoilt, InBlocks}
 use Rattle.fault.specs.declared.faults.ConsoleFault.{ConsoleFault}
 use Rattle.console.specs.declared.answers.Answer.{Answer}
 use Rattle.console.specs.declared.call.Call.{Call}
-use Rattle.part.specs.Neighbours.{elapsed}
 use Rattle.console.specs.Desks.{Desk, opened}
-use Rattle.rehearsal.specs.Promises.{OnlyLooks, Reports}
-use Rattle.rehearsal.proofs.Tables.{Table, look, after, tells}
+use Rattle.console.specs.Showing.{OnlyLooks, Prompt}
+use Rattle.console.proofs.Tables.{Table, look, after, tells}
 
 -- A part that meant o when its console was opened on blocks a and b means m, the books are c, and they hold what f says.
 pub record Keeps (o : Meaning) (a b : ℕ) (f : Table) (m : Meaning) (c : Pair) : Type 0 where
@@ -36,7 +35,7 @@ pub record Goes (o : Meaning) (a b : ℕ) (f : Table) (m : Meaning) (c : Pair) (
   pub keeps : Keeps o a b (after call (is_ok r) f) e.part books
   pub looks : OnlyLooks call → look r ≡ tells c.positions f call
   pub sure : worn o a ≡ false → worn o b ≡ false → look r ≡ tells c.positions f call
-  pub prompt : OnlyLooks call → (elapsed m.clock e.part.clock ≤ 15) × Reports (elapsed m.clock e.part.clock) r
+  pub prompt : OnlyLooks call → Prompt m.clock e.part.clock r
 
 -- Time that passes without an erasure changes nothing of it.
 rest_ticked : (m : Meaning) (c : Pair) (time : ℕ) → Rest m c → Rest (ticked m time) c
