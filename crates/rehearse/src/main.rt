@@ -6,8 +6,9 @@ mod sheet;
 mod stage;
 mod stopped;
 
+use parts::part_of;
 use script::read;
-use stage::Stage;
+use stage::play_on;
 use std::io::{self, BufReader, Read};
 use std::process::ExitCode;
 use stopped::Stopped;
@@ -17,8 +18,10 @@ fn run(rt: &HostRuntime) -> Result<(), Stopped> {
     let mut text = Vec::new(heap);
     BufReader::new(heap, rt.reader())?.read_to_end(&mut text)?;
     let script = read(heap, text.as_slice())?;
-    let mut stage = Stage::of(heap, text.as_slice(), &script)?;
-    stage.play(rt, text.as_slice(), script.steps.as_slice())
+    let text = text.as_slice();
+    let quick = part_of(heap, text, b"quick", script.quick)?;
+    let slow = part_of(heap, text, b"slow", script.slow)?;
+    play_on(rt, heap, text, script.steps.as_slice(), quick, slow)
 }
 
 fn main(rt: HostRuntime) -> io::Result<ExitCode> {

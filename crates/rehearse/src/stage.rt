@@ -1,20 +1,19 @@
 // The two consoles, and the steps of a script on them.
-use crate::parts::part_of;
 use crate::sheet::Sheet;
 use crate::stopped::Stopped;
 use console::Console;
-use pile::Pile;
+use part::Part;
 use rehearsal::{Row, Seats, rehearse};
-use script::{Reply, Request, Script, Step};
+use script::{Reply, Request, Step};
 use std::alloc::Global;
 use std::io;
 
-/// The quick console and the slow one.
+// The quick console and the slow one, over parts of any make.
 #[derive(Drop)]
-pub struct Stage {
+struct Stage<P: Part + Drop> {
     heap: Global,
-    quick: Console<Pile>,
-    slow: Console<Pile>,
+    quick: Console<P>,
+    slow: Console<P>,
 }
 
 // A row for each call of some steps, if they are nothing but calls of the list.
@@ -40,16 +39,7 @@ fn list_of(heap: Global, steps: &[Step]) -> Result<Option<(Seats, Seats, Vec<Row
     Ok(rows_of(heap, rest)?.map(|rows| (quick, slow, rows)))
 }
 
-impl Stage {
-    /// Both consoles over the parts that a script names.
-    pub fn of(heap: Global, text: &[u8], script: &Script) -> Result<Stage, Stopped> {
-        Ok(Stage {
-            heap,
-            quick: Console::new(part_of(heap, text, b"quick", script.quick)?),
-            slow: Console::new(part_of(heap, text, b"slow", script.slow)?),
-        })
-    }
-
+impl<P: Part + Drop> Stage<P> {
     // Makes one request of both consoles.
     fn ask(&mut self, request: Request) -> (Reply, Reply) {
         match request {
@@ -96,8 +86,8 @@ impl Stage {
         Ok(())
     }
 
-    /// Makes the steps of a script on both consoles, and prints the account.
-    pub fn play(&mut self, rt: &HostRuntime, text: &[u8], steps: &[Step]) -> Result<(), Stopped> {
+    // Makes the steps of a script on both consoles, and prints the account.
+    fn play(&mut self, rt: &HostRuntime, text: &[u8], steps: &[Step]) -> Result<(), Stopped> {
         let mut sheet = Sheet::new(self.heap, text, io::writer(rt))?;
         match list_of(self.heap, steps)? {
             Some((quick, slow, mut rows)) => {
@@ -112,4 +102,21 @@ impl Stage {
         }
         sheet.end()
     }
+}
+
+/// Makes the steps of a script on two consoles, closed, over these parts, and prints the account.
+pub fn play_on<P: Part + Drop>(
+    rt: &HostRuntime,
+    heap: Global,
+    text: &[u8],
+    steps: &[Step],
+    quick: P,
+    slow: P,
+) -> Result<(), Stopped> {
+    let mut stage = Stage {
+        heap,
+        quick: Console::new(quick),
+        slow: Console::new(slow),
+    };
+    stage.play(rt, text, steps)
 }
