@@ -23,7 +23,7 @@ impl Chip {
     fn inside(&self, address: u32) -> Result<(), ChipFault>
         ensures { result ≡ at_address (view self.now) address tt }
     {
-        if address < self.size() {
+        if (address as usize) < self.cells.len() {
             Ok(())
         } else {
             Err(ChipFault {

@@ -132,13 +132,24 @@ impl Chip {
         n - left
     }
 
-    // Lets n microseconds pass, the count aside: each turn is a whole state.
-    pub(crate) fn run(&mut self, n: u32)
+    // Lets n microseconds pass, the count aside, over the ends of states: each turn is a whole state.
+    fn run_on(&mut self, n: u32)
         ensures { view self.new ≡ steps n (view self.old) }
     {
         let mut rest = n;
         while rest > 0 {
             rest = self.advance(rest);
+        }
+    }
+
+    // Lets n microseconds pass, the count aside. Most passes end before the state does, and have no part in what its end costs.
+    pub(crate) fn run(&mut self, n: u32)
+        ensures { view self.new ≡ steps n (view self.old) }
+    {
+        match self.state.due() {
+            None => {}
+            Some(left) if n < left => self.state.lower(n),
+            Some(_) => self.run_on(n),
         }
     }
 
