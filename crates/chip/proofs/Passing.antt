@@ -1,13 +1,13 @@
 -- Time: the jump from the end of one state to the next does what the single microseconds do.
 use Rattle.std.proofs.Common.{◌≡◌, ℕ, zero, suc, ◌+◌, ◌-◌, ◌%◌, ◌<◌, ◌≤◌, max, Bool, true, false, cond, leb, Some, None, Option, sym, refl, ap, ◌∙◌, add-one, arith}
-use Rattle.std.proofs.lemmas.Bool.{le-leb, lt-leb}
+use Rattle.std.proofs.lemmas.Bool.{le-leb, lt-leb, leb-true, leb-false}
 use Rattle.chip.specs.declared.state.Phase.{Phase}
 use Rattle.chip.specs.declared.state.Phase.TheVariants.{Window, Erasing as Begun}
 use Rattle.chip.specs.declared.state.State.{State}
 use Rattle.chip.specs.declared.state.State.TheVariants.{Ready, Programming, Erasing, Suspending, Suspended, Failed}
 use Rattle.chip.specs.Flash.{Flash}
 use Rattle.chip.proofs.Updates.{with_state}
-use Rattle.chip.specs.Times.{erased, ended, due, lowered, step_by, step, steps, with_clock, tick, passed}
+use Rattle.chip.specs.Times.{erased, ended, due, within, lowered, step_by, step, steps, with_clock, tick, passed}
 
 pub steps_split : (a b : ℕ) (f : Flash) → steps (a + b) f ≡ steps b (steps a f)
 unfolding steps
@@ -83,6 +83,44 @@ until (suc n) d f e h =
     let more : leb (d - n) 1 ≡ false = lt-leb (d - n) 1 (omega arith) in
     let on : step (with_state f (lowered n f.state)) ≡ with_state f (lowered 1 (lowered n f.state)) = rw (left, more) refl in
     steps_last n f ∙ ap step before ∙ on ∙ ap (with_state f) (lowered_more n f.state)
+
+-- Whether a state ends within n microseconds.
+pub record Ends (n left : ℕ) (o : Option ℕ) : Type 0 where
+  pub due : o ≡ Some left
+  pub most : left ≤ n
+
+within_by : (t : Bool) (d left : ℕ) → cond t (Some d) None ≡ Some left → (t ≡ true) × (d ≡ left)
+within_by true d left e = (refl, cc)
+within_by false d left e = let z : ◌≡◌ {A = ℕ} 0 1 = cc in absurd (omega arith)
+
+within_by_none : (t : Bool) (d : ℕ) → cond t (Some d) None ≡ None → t ≡ false
+within_by_none true d e = let z : ◌≡◌ {A = ℕ} 0 1 = cc in absurd (omega arith)
+within_by_none false d e = refl
+
+within_none : (n d : ℕ) → within n (Some d) ≡ None → n < d
+within_none n d e = leb-false d n (within_by_none (leb d n) d e)
+
+pub within_some : (n left : ℕ) (o : Option ℕ) → within n o ≡ Some left → Ends n left o
+within_some n left None e = let z : ◌≡◌ {A = ℕ} 0 1 = cc in absurd (omega arith)
+within_some n left (Some d) e =
+    let k = within_by (leb d n) d left e in
+    record { due = ap Some k.1; most = omega (arith, leb-true d n k.0, k.1) }
+
+-- Time that the state outlasts, or that it stands still for.
+lowered_still : (n : ℕ) (s : State) → due s ≡ None → lowered n s ≡ s
+lowered_still n (Ready m p) e = refl
+lowered_still n (Programming p) e = let z : ◌≡◌ {A = ℕ} 0 1 = cc in absurd (omega arith)
+lowered_still n (Erasing r) e = let z : ◌≡◌ {A = ℕ} 0 1 = cc in absurd (omega arith)
+lowered_still n (Suspending r w) e = let z : ◌≡◌ {A = ℕ} 0 1 = cc in absurd (omega arith)
+lowered_still n (Suspended r) e = refl
+lowered_still n (Failed b t) e = refl
+
+pub outlasted : (n : ℕ) (f : Flash) → within n (due f.state) ≡ None → steps n f ≡ with_state f (lowered n f.state)
+outlasted n f e = by (due f.state) refl
+  where
+    by : (o : Option ℕ) → due f.state ≡ o → steps n f ≡ with_state f (lowered n f.state)
+    by None h = still n f h ∙ ap (with_state f) (sym (lowered_still n f.state h))
+    by (Some d) h = until n d f h (within_none n d (sym (ap (within n) h) ∙ e))
 
 -- when just what was left has passed, the state ends
 pub over : (d : ℕ) (f : Flash) → due f.state ≡ Some d → steps d f ≡ ended f f.state

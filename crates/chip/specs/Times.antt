@@ -56,6 +56,11 @@ due (Suspending e wait) = Some (max 1 wait)
 due (Suspended e) = None
 due (Failed byte toggle) = None
 
+-- The microseconds that a state lasts, where it ends by itself within n; none where it lasts longer, or does not end by itself.
+abbrev pub within : ℕ → Option ℕ → Option ℕ
+within n None = None
+within n (Some left) = if nat_le left n then Some left else None
+
 -- the same with n microseconds less to go
 abbrev pub lowered : ℕ → State → State
 lowered n (Ready mode place) = Ready mode place

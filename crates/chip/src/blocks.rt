@@ -30,6 +30,6 @@ impl Chip {
     pub(crate) fn lies_in(&self, set: BlockSet, address: u32) -> bool
         ensures { result ≡ lies_in (view self.now) set address }
     {
-        set.contains(self.block_at(address))
+        self.ground().row.is_in(set, address)
     }
 }

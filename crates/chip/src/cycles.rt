@@ -42,7 +42,7 @@ impl Chip {
         ensures laws { WriteLaws }
     {
         self.inside(address)?;
-        self.state = self.heed(address, byte);
+        self.heed(address, byte);
         Ok(())
     }
 

@@ -1,14 +1,27 @@
 // The passing of time, from the end of one state to the next.
-ghost use Rattle.std.specs.Prelude.{◌≡◌, ◌+◌, ◌%◌, ◌<◌};
+ghost use Rattle.std.specs.Prelude.{◌≡◌, ◌+◌, ◌-◌, ◌%◌, max, Some, if◌then◌else◌, is_some, nat_le};
 ghost use Rattle.flash.specs.Programs.{after_program};
 ghost use Rattle.flash.specs.Erases.{after_erase};
 ghost use Rattle.chip.specs.Flash.{view, ground_of};
-ghost use Rattle.chip.specs.Times.{programmed, erase_time, erased, ended, due, lowered, steps};
+ghost use Rattle.chip.specs.Times.{programmed, erase_time, erased, ended, due, within, lowered, steps};
 
 use crate::chip::Chip;
 use crate::state::{Erase, Phase, Program, State};
 use flash::{Mode, Place};
 use geometry::BlockSet;
+
+// Takes n microseconds off those that are left, of which at least one is, and answers none. Where they are over by then, they stay, and are the answer.
+fn run_down(left: &mut u32, n: u32) -> Option<u32>
+    ensures over { result ≡ within n (Some (max 1 left.old)) }
+    ensures rest { left.new ≡ if nat_le (max 1 left.old) n then left.old else left.old - n }
+{
+    let due = (*left).max(1);
+    if due <= n {
+        return Some(due);
+    }
+    *left = left.saturating_sub(n);
+    None
+}
 
 // The byte that an erase is to leave in a cell.
 const ERASED: u8 = 0xFF;
@@ -16,27 +29,17 @@ const ERASED: u8 = 0xFF;
 pub(crate) const READ_MODE: State = State::Ready(Mode::Read, Place::Start);
 
 impl State {
-    // Microseconds until the state ends by itself, at least one; none where it does not.
-    fn due(self) -> Option<u32>
-        ensures { result ≡ due self }
+    // Lets n microseconds pass, where the state does not end by itself within them, and answers none. Where it does, it stays as it is, and the answer is
+    // how long it lasts.
+    fn end_within(&mut self, n: u32) -> Option<u32>
+        ensures over { result ≡ within n (due self.old) }
+        ensures rest { self.new ≡ if is_some (within n (due self.old)) then self.old else lowered n self.old }
     {
         match self {
-            State::Programming(p) => Some(p.left.max(1)),
-            State::Erasing(e) => Some(e.left.max(1)),
-            State::Suspending(_, wait) => Some(wait.max(1)),
+            State::Programming(p) => run_down(&mut p.left, n),
+            State::Erasing(e) => run_down(&mut e.left, n),
+            State::Suspending(_, wait) => run_down(wait, n),
             _ => None,
-        }
-    }
-
-    // n microseconds less to go.
-    fn lower(&mut self, n: u32)
-        ensures { self.new ≡ lowered n self.old }
-    {
-        match self {
-            State::Programming(p) => p.left = p.left.saturating_sub(n),
-            State::Erasing(e) => e.left = e.left.saturating_sub(n),
-            State::Suspending(_, wait) => *wait = wait.saturating_sub(n),
-            _ => {}
         }
     }
 }
@@ -104,7 +107,8 @@ impl Chip {
         }
     }
 
-    // Ends what the chip is doing.
+    // Ends what the chip is doing. Most passes end before the state does, and have no part in what its end costs.
+    #[inline(never)]
     fn end(&mut self)
         ensures { view self.new ≡ ended (view self.old) self.old.state }
     {
@@ -116,40 +120,14 @@ impl Chip {
         }
     }
 
-    // Lets time pass until it is over or the state has ended, and returns the microseconds that are left.
-    fn advance(&mut self, n: u32) -> u32
-        ensures same { steps n (view self.old) ≡ steps result (view self.new) }
-        ensures less { 0 < n → result < n }
-    {
-        let Some(left) = self.state.due() else {
-            return 0;
-        };
-        if n < left {
-            self.state.lower(n);
-            return 0;
-        }
-        self.end();
-        n - left
-    }
-
-    // Lets n microseconds pass, the count aside, over the ends of states: each turn is a whole state.
-    fn run_on(&mut self, n: u32)
-        ensures { view self.new ≡ steps n (view self.old) }
-    {
-        let mut rest = n;
-        while rest > 0 {
-            rest = self.advance(rest);
-        }
-    }
-
-    // Lets n microseconds pass, the count aside. Most passes end before the state does, and have no part in what its end costs.
+    // Lets n microseconds pass, the count aside: each turn is a whole state, to its end.
     pub(crate) fn run(&mut self, n: u32)
         ensures { view self.new ≡ steps n (view self.old) }
     {
-        match self.state.due() {
-            None => {}
-            Some(left) if n < left => self.state.lower(n),
-            Some(_) => self.run_on(n),
+        let mut rest = n;
+        while let Some(left) = self.state.end_within(rest) {
+            self.end();
+            rest -= left;
         }
     }
 

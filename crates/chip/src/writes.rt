@@ -32,57 +32,67 @@ impl Chip {
         place.decide(commands, commands.low_bits(address), byte)
     }
 
-    // What the chip does after a write of a sequence that began in `mode`.
-    fn obey(&self, mode: Mode, address: u32, byte: u8, decision: Decision) -> State
-        ensures { result ≡ obeyed (view self.now) mode address byte decision }
+    // Does what a write of a sequence that began in `mode` means. The state is changed in place here and below: one that is made anew at each write costs
+    // as much again as the write.
+    fn obey(&mut self, mode: Mode, address: u32, byte: u8, decision: Decision)
+        ensures { view self.new ≡ record (view self.old) { state = obeyed (view self.old) mode address byte decision } }
     {
         match decision {
-            Decision::Next(place) => State::Ready(mode, place),
-            Decision::Enter(other) => State::Ready(other, Place::Start),
-            Decision::Program => State::Programming(Program {
-                address,
-                byte,
-                left: self.program_time(address, byte),
-                toggle: false,
-            }),
-            Decision::Erase => State::Erasing(Erase {
-                phase: Phase::Window,
-                selected: self.block_alone(address),
-                left: WINDOW,
-                toggle: false,
-            }),
-            Decision::GiveUp => State::Ready(mode, Place::Start),
+            Decision::Next(place) => self.state = State::Ready(mode, place),
+            Decision::Enter(other) => self.state = State::Ready(other, Place::Start),
+            Decision::Program => {
+                let left = self.program_time(address, byte);
+                self.state = State::Programming(Program {
+                    address,
+                    byte,
+                    left,
+                    toggle: false,
+                });
+            }
+            Decision::Erase => {
+                let selected = self.block_alone(address);
+                self.state = State::Erasing(Erase {
+                    phase: Phase::Window,
+                    selected,
+                    left: WINDOW,
+                    toggle: false,
+                });
+            }
+            Decision::GiveUp => self.state = State::Ready(mode, Place::Start),
         }
     }
 
-    // What the chip does after a write during a block erase.
-    fn interrupt(&self, erase: Erase, address: u32, byte: u8) -> State
-        ensures { result ≡ interrupted (view self.now) erase erase.phase address byte }
+    // Does what a write during a block erase means.
+    fn interrupt(&mut self, erase: Erase, address: u32, byte: u8)
+        ensures { view self.new ≡ record (view self.old) { state = interrupted (view self.old) erase erase.phase address byte } }
     {
         match (erase.phase, byte) {
-            (_, 0xB0) => State::Suspending(erase, self.setup.suspend),
-            (Phase::Erasing, _) => State::Erasing(erase),
-            (Phase::Window, 0x30) => State::Erasing(Erase {
-                selected: erase.selected.union(self.block_alone(address)),
-                left: WINDOW, // counted from this 30h on
-                ..erase
-            }),
-            (Phase::Window, _) => READ_MODE,
+            (_, 0xB0) => self.state = State::Suspending(erase, self.setup.suspend),
+            (Phase::Erasing, _) => self.state = State::Erasing(erase),
+            (Phase::Window, 0x30) => {
+                let selected = erase.selected.union(self.block_alone(address));
+                self.state = State::Erasing(Erase {
+                    selected,
+                    left: WINDOW, // counted from this 30h on
+                    ..erase
+                });
+            }
+            (Phase::Window, _) => self.state = READ_MODE,
         }
     }
 
-    // What the chip does after a write, by what it was doing.
-    pub(crate) fn heed(&self, address: u32, byte: u8) -> State
-        ensures { result ≡ heeded (view self.now) self.now.state address byte }
+    // Does what a write means, by what the chip is doing.
+    pub(crate) fn heed(&mut self, address: u32, byte: u8)
+        ensures { view self.new ≡ record (view self.old) { state = heeded (view self.old) self.old.state address byte } }
     {
         match self.state {
             State::Ready(mode, place) => {
                 self.obey(mode, address, byte, self.decide(place, address, byte))
             }
             State::Erasing(erase) => self.interrupt(erase, address, byte),
-            State::Suspended(erase) if byte == 0x30 => State::Erasing(erase),
-            State::Failed(_, _) if byte == 0xF0 => READ_MODE,
-            busy => busy,
+            State::Suspended(erase) if byte == 0x30 => self.state = State::Erasing(erase),
+            State::Failed(_, _) if byte == 0xF0 => self.state = READ_MODE,
+            _ => {}
         }
     }
 }

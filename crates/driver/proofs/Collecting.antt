@@ -1,13 +1,9 @@
 -- The guarded blocks, gathered one after the other.
-use Rattle.std.proofs.Common.{◌≡◌, ℕ, ◌+◌, ◌<◌, ◌≤◌, Bool, true, false, ◌&&◌, ◌||◌, eqb, ltb, length, sym, refl, ap, ◌∙◌, inl, inr, arith}
-use Rattle.std.proofs.lemmas.List.{get_or_past}
+use Rattle.std.proofs.Common.{◌≡◌, ℕ, ◌+◌, ◌<◌, ◌≤◌, Bool, true, false, ◌&&◌, ◌||◌, eqb, ltb, sym, refl, ap, ◌∙◌, inl, inr, arith}
 use Rattle.std.proofs.lemmas.Bool.{cases_lt, cases_eq, lt-ltb, le-ltb, eq-eqb, ne_eqb}
 use Rattle.geometry.specs.declared.set.BlockSet.{BlockSet}
 use Rattle.geometry.specs.Sets.{has, only, union}
 use Rattle.geometry.proofs.Sets.{has_union, has_only}
-use Rattle.part.specs.Meaning.{guarded}
-use Rattle.driver.specs.Rig.{Rig, meaning}
-use Rattle.driver.specs.Sound.{Sound}
 
 or_false : (x : Bool) → (x || false) ≡ x
 or_false true = refl
@@ -42,13 +38,3 @@ without_block set p i t f b = f b ∙ by
         | inr n ↦ let h : i + 1 ≤ b = omega (arith, n) in rw (le-ltb b i g, le-ltb b (i + 1) h) refl
       ]
     ]
-
--- Once all blocks were asked: no other block is guarded.
-pub all_blocks : (r : Rig) (set : BlockSet) (n : ℕ) → Sound r → n ≡ length r.sheet.sizes
-    → ((b : ℕ) → has set b ≡ (ltb b n && guarded (meaning r) b)) → (b : ℕ) → has set b ≡ guarded (meaning r) b
-all_blocks r set n s e f b = elim (cases_lt b n) [
-  | inl l ↦ f b ∙ ap (λ (x : Bool). x && guarded (meaning r) b) (lt-ltb b n l)
-  | inr g ↦
-      f b ∙ ap (λ (x : Bool). x && guarded (meaning r) b) (le-ltb b n g)
-      ∙ sym (get_or_past r.guards b false (omega (arith, s.guards, e)))
-]

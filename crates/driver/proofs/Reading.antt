@@ -1,6 +1,6 @@
 -- A read of a chip to which the notes are tied, in the words of a part.
 use Rattle.std.proofs.Common.{◌≡◌, ℕ, true, false, eqb, length, Some, None, Ok, Err, Option, sym, refl, ap, ◌∙◌, subst, inl, inr, arith}
-use Rattle.std.proofs.lemmas.Bool.{lt-leb, le-leb, ltb-true, ltb-false, cond-true, cond-false, true≢false, eq-eqb}
+use Rattle.std.proofs.lemmas.Bool.{lt-leb, ltb-true, cond-true, cond-false, true≢false, eq-eqb}
 use Rattle.fault.specs.declared.cause.Cause.TheVariants.{ErasureInTheWay}
 use Rattle.part.specs.declared.answers.Standing.{Standing}
 use Rattle.part.specs.declared.answers.Standing.TheVariants.{Idle, Running, Suspended}
@@ -49,9 +49,6 @@ same_means r s a byte x = elim x.only [
 
 pub within_is : (r : Rig) (a : ℕ) → Sound r → inside r.sheet a ≡ true → outside (meaning r) a ≡ false
 within_is r a s i = lt-leb (length r.cells) a (omega (arith, s.whole, ltb-true _ _ i))
-
-pub outside_is : (r : Rig) (a : ℕ) → Sound r → inside r.sheet a ≡ false → outside (meaning r) a ≡ true
-outside_is r a s i = le-leb (length r.cells) a (omega (arith, s.whole, ltb-false _ _ i))
 
 -- Where nothing hides the address, the cell is read.
 running_hides : (r : Rig) (b c : ℕ) (j : Job) → r.doing ≡ erasing j → hides (meaning r) c ≡ true

@@ -2,7 +2,7 @@
 -- the impl of the part needs it for the law.
 use Rattle.std.specs.Prelude.{◌≡◌, ℕ, ◌<◌, ◌≤◌, true, ◌&&◌, length, Some, None, ◌==◌, nat_le, nat_lt, refl}
 use Rattle.std.proofs.Common.{arith, ap}
-use Rattle.std.proofs.lemmas.Bool.{and_parts, and_from, ltb-true, lt-ltb, eqb-true, eq-eqb, leb-true, le-leb, false≢true}
+use Rattle.std.proofs.lemmas.Bool.{and_parts, ltb-true, eqb-true, leb-true, false≢true}
 use Rattle.part.specs.declared.answers.Standing.{Standing}
 use Rattle.part.specs.declared.answers.Standing.TheVariants.{Idle, Running, Suspended}
 use Rattle.part.specs.Meaning.{ErasureLawful, Lawful}
@@ -22,9 +22,6 @@ erases_is n b j t =
     let p = and_parts (j.block == b && nat_lt b n) (nat_le 1 j.left) t in
     let q = and_parts (j.block == b) (nat_lt b n) p.0 in
     record { block = eqb-true _ _ q.0; within = ltb-true _ _ q.1; lasts = leb-true _ _ p.1 }
-
-pub is_erases : (n b : ℕ) (j : Job) → Erases n b j → erases n b j ≡ true
-is_erases n b j e = and_from _ _ (and_from _ _ (eq-eqb _ _ e.block) (lt-ltb _ _ e.within)) (le-leb _ _ e.lasts)
 
 pub start_is : (p : Place) → is_start p ≡ true → p ≡ start
 start_is start t = refl

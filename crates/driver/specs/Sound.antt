@@ -1,6 +1,7 @@
 -- What is true of every chip on its bus, whatever it is doing.
 use Rattle.std.specs.Prelude.{◌≡◌, ℕ, ◌<◌, ◌≤◌, true, length}
 use Rattle.geometry.specs.Blocks.{total, start_of}
+use Rattle.geometry.specs.Sets.{largest_set}
 use Rattle.flash.specs.Limits.{longest_program, longest_erase, longest_suspension}
 use Rattle.driver.specs.Rig.{Sheet, Rig, inside, LiesIn}
 
@@ -11,11 +12,11 @@ pub record Addressed (sheet : Sheet) (b : ℕ) : Type 0 where
   pub guard : LiesIn sheet (sheet.guard b) b
   pub start : LiesIn sheet (start_of sheet.sizes b) b
 
--- It has as many cells as its blocks have, at most 128 blocks, each guarded or not and worn or not, and its times are inside their limits.
+-- It has as many cells as its blocks have, no more blocks than a set has room for, each guarded or not and worn or not, and its times are inside their limits.
 pub record Sound (r : Rig) : Type 0 where
   pub whole : total r.sheet.sizes ≡ length r.cells
   pub small : length r.cells < 4294967296
-  pub few : length r.sheet.sizes ≤ 128
+  pub few : length r.sheet.sizes ≤ largest_set
   pub guards : length r.guards ≡ length r.sheet.sizes
   pub wears : length r.wears ≡ length r.sheet.sizes
   pub clock : r.clock < 4294967296

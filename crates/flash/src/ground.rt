@@ -1,6 +1,6 @@
 // What an operation on cells knows of a chip's blocks.
 ghost use Rattle.std.specs.Prelude.{◌≡◌};
-ghost use Rattle.flash.specs.Grounds.{ground, is_protected, is_worn, block_alone};
+ghost use Rattle.flash.specs.Grounds.{ground, is_protected, block_alone};
 
 use geometry::{BlockSet, Row};
 
@@ -19,13 +19,6 @@ impl Ground {
         ensures { result ≡ is_protected (ground self.now) address }
     {
         self.row.is_in(self.protected, address)
-    }
-
-    /// Whether an address lies in a worn block.
-    pub fn is_worn(&self, address: u32) -> bool
-        ensures { result ≡ is_worn (ground self.now) address }
-    {
-        self.row.is_in(self.worn, address)
     }
 
     /// The block that an address lies in, as a set.

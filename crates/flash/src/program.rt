@@ -23,9 +23,10 @@ impl Ground {
     pub fn program_time(&self, each: u32, cells: &[u8], address: u32, byte: u8) -> u32
         ensures { result ≡ program_time (ground self.now) each cells.now address byte }
     {
-        if self.is_protected(address) {
+        let block = self.row.block_at(address);
+        if self.protected.contains(block) {
             PROTECTED_PROGRAM
-        } else if self.is_worn(address) || needs_erase(cell_at(cells, address), byte) {
+        } else if self.worn.contains(block) || needs_erase(cell_at(cells, address), byte) {
             LONGEST_PROGRAM
         } else {
             each
@@ -36,15 +37,17 @@ impl Ground {
     pub fn program_fails(&self, cells: &[u8], address: u32, byte: u8) -> bool
         ensures { result ≡ program_fails (ground self.now) cells.now address byte }
     {
-        !self.is_protected(address)
-            && (self.is_worn(address) || needs_erase(cell_at(cells, address), byte))
+        let block = self.row.block_at(address);
+        !self.protected.contains(block)
+            && (self.worn.contains(block) || needs_erase(cell_at(cells, address), byte))
     }
 
     /// Does to the cells what the program of a byte does, at its end and where a reset breaks it off.
     pub fn program(&self, cells: &mut [u8], address: u32, byte: u8)
         ensures { cells.new ≡ after_program (ground self.now) cells.old address byte }
     {
-        if !self.is_protected(address) && !self.is_worn(address) {
+        let block = self.row.block_at(address);
+        if !self.protected.contains(block) && !self.worn.contains(block) {
             burn(cells, address, byte);
         }
     }

@@ -8,10 +8,10 @@ use Rattle.geometry.specs.declared.block.Block.{Block}
 use Rattle.part.specs.declared.answers.Shape.{Shape}
 use Rattle.part.specs.Meaning.{Meaning, size, count, cell, shape_of}
 use Rattle.part.specs.declared.answers.Progress.{Progress}
-use Rattle.part.specs.Calls.{answer, stands, hides_beside, bars_beside, time_no, progress, block_at, peek_no, burn_no, begin_no, Burnt, Begun, passed}
+use Rattle.part.specs.Calls.{answer, stands, hides_beside, bars_beside, time_no, progress, block_at, peek_no, burn_no, begin_no, Burnt, Begun, passed, after_pass}
 use Rattle.part.specs.Standings.{stood}
 use Rattle.part.proofs.Standings.{stood_is}
-use Rattle.part.specs.Laws.{Call, burn, begin}
+use Rattle.part.specs.Laws.{Call, burn, begin, pass}
 use Rattle.part.specs.Neighbours.{elapsed}
 use Rattle.joined.specs.declared.aim.Aim.{Aim}
 use Rattle.joined.specs.declared.aim.Aim.TheVariants.{First, Second}
@@ -64,7 +64,7 @@ placed_answer (Some cause) inner place x = refl
 placed_answered : (why : Option Cause) (inner place : ℕ) → placed (answered why inner) place ≡ answered why place
 placed_answered why inner place = placed_answer why inner place tt
 
-module _ (l : Bool) (m n : Meaning) (v : Sound (record { live = l; first = m; second = n })) where
+module _ {l : Bool} {m n : Meaning} (v : Sound (record { live = l; first = m; second = n })) where
   on : l ≡ true → joined l m n ≡ pile m n
   on t = cond-true l _ _ t
 
@@ -228,7 +228,12 @@ module _ (l : Bool) (m n : Meaning) (v : Sound (record { live = l; first = m; se
         begin_sent (Some (Second i)) m n' (begin_on (Some (Second i)) o.0 o.1)
         (none_passed n m v.second v.first n'.clock (begun_clock m n v.first v.second n i (begin_no n i) n' w), w)
 
-  -- A pass: what became of the erasure, which the second side tells where the first has none.
+  -- A pass of both sides.
+  pub both_passed : (k : ℕ) {m' n' : Meaning} → m' ≡ after_pass m k → n' ≡ after_pass n k
+      → Done (record { live = l; first = m; second = n }) (pass k) (record { live = l; first = m'; second = n' })
+  both_passed k {m'} {n'} e f = done (pass k) m' n' (record { live = refl; sides = (e, f) })
+
+  -- What became of the erasure, which the second side tells where the first has none.
   pub pass_second : (k : ℕ) (s : Shape) (r : Result Progress PartFault) → l ≡ true → s ≡ shape_of m → stood s.standing ≡ false
       → r ≡ answer (time_no k) k (progress n k n.erasure) → r ≡ answer (time_no k) k (progress (joined l m n) k (joined l m n).erasure)
   pass_second k s r t f i d =

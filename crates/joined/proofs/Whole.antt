@@ -209,6 +209,9 @@ pub record Sound (s : Sides) : Type 0 where
   pub second : Lawful s.second
   pub fit : s.live ≡ true → fits s.first s.second ≡ true
 
+pub sound : {l : Bool} {m n : Meaning} → Lawful m → Lawful n → (l ≡ true → fits m n ≡ true) → Sound (record { live = l; first = m; second = n })
+sound first second fit = record { first = first; second = second; fit = fit }
+
 pub record Kept (s : Sides) (c : Call) (t : Sides) : Type 0 where
   pub whole : Made (whole_of s) c (whole_of t)
   pub fit : t.live ≡ true → fits t.first t.second ≡ true

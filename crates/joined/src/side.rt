@@ -70,7 +70,7 @@ impl<P: Part> Part for Side<P> {
     }
 
     fn peek(&mut self, address: u32) -> Result<u8, PartFault> {
-        self.act(|part| part.peek(address))
+        self.part.peek(address)
     }
 
     fn burn(&mut self, address: u32, byte: u8) -> Result<(), PartFault> {
