@@ -20,7 +20,7 @@ use Rattle.chip.specs.declared.state.State.TheVariants.{Programming, Suspending,
 use Rattle.chip.specs.Flash.{Flash, ground_of, blocks, inside, cell, lies_in, erasable}
 use Rattle.chip.specs.Writes.{read_mode}
 use Rattle.chip.specs.Times.{programmed, spoils, erase_time, erased, ended, due, lowered, step_by, tick, passed}
-use Rattle.chip.specs.Laws.{Sound, Holds, stopping, stopped, Begins, Erased, StillErasing}
+use Rattle.chip.specs.Laws.{Sound, Holds, stopping, stopped, Works, Begins, Erased, StillErasing}
 use Rattle.chip.proofs.Limits.{limits}
 use Rattle.chip.proofs.Passing.{Same, passed_until, passed_over, rests}
 
@@ -74,20 +74,71 @@ stopping_over f e wait s h =
     let left : due f.state ≡ Some wait = ap due s ∙ ap Some (omega arith) in
     (passed_over wait f left).state ∙ ap (λ (x : State). (ended f x).state) s
 
--- An erasing that has just begun, and lasts t microseconds.
-begun_due : (f : Flash) (e : Erase) (t : ℕ) → Begins f e → erase_time f e.selected ≡ t → 1 ≤ t → due f.state ≡ Some t
-begun_due f e t b q h = ap due b.erasing ∙ ap Some (omega (arith, b.whole, q))
+-- An erasing that goes on.
+works_due : (f : Flash) (e : Erase) → Works f e → due f.state ≡ Some e.left
+works_due f e w = ap due w.erasing ∙ ap Some (omega (arith, w.left))
 
-goes_on : (f : Flash) (e : Erase) (t : ℕ) → Begins f e → erase_time f e.selected ≡ t → 1 ≤ t → (n : ℕ) → n < t → StillErasing f e n (passed n f)
-goes_on f e t b q h n k =
-    let same : Same (passed n f) _ = passed_until n t f (begun_due f e t b q h) k in
-    record { erasing = same.state ∙ ap (lowered n) b.erasing; cells = same.cells }
+goes_on : (f : Flash) (e : Erase) → Works f e → (n : ℕ) → n < e.left → StillErasing f e n (passed n f)
+goes_on f e w n k =
+    let same : Same (passed n f) _ = passed_until n e.left f (works_due f e w) k in
+    record { erasing = same.state ∙ ap (lowered n) w.erasing; cells = same.cells }
 
-comes_to : (f : Flash) (e : Erase) (t : ℕ) → Begins f e → erase_time f e.selected ≡ t → 1 ≤ t → Same (passed t f) (erased f e Begun)
-comes_to f e t b q h =
-    let end : Same (passed t f) (ended f f.state) = passed_over t f (begun_due f e t b q h) in
-    let is : ended f f.state ≡ erased f e Begun = ap (ended f) b.erasing ∙ ap (erased f e) b.phase in
+comes_to : (f : Flash) (e : Erase) → Works f e → Same (passed e.left f) (erased f e Begun)
+comes_to f e w =
+    let end : Same (passed e.left f) (ended f f.state) = passed_over e.left f (works_due f e w) in
+    let is : ended f f.state ≡ erased f e Begun = ap (ended f) w.erasing ∙ ap (erased f e) w.phase in
     record { state = end.state ∙ ap (λ (x : Flash). x.state) is; cells = end.cells ∙ ap (λ (x : Flash). x.cells) is }
+
+-- what it comes to, where no block that it works on is worn
+all_filled : (f : Flash) (e : Erase) → Works f e → spoils f e.selected ≡ false
+    → ((passed e.left f).state ≡ read_mode) × ((passed e.left f).cells ≡ filled (blocks f) (erasable f e.selected) 0xFF f.cells)
+all_filled f e w m =
+    let end = comes_to f e w in (
+      end.state ∙ ap (λ (x : Bool). cond x (Failed 0xFF e.toggle) read_mode) m,
+      end.cells ∙ ap (λ (x : Bool). cond x f.cells (filled (blocks f) (erasable f e.selected) 0xFF f.cells)) m,
+    )
+
+pub ends_erased : (f : Flash) (e : Erase) → Sound f → Works f e → meets (erasable f e.selected) f.setup.worn ≡ false
+    → ((n : ℕ) → n < e.left → StillErasing f e n (passed n f)) × Erased f (erasable f e.selected) (passed e.left f)
+ends_erased f e sound w m =
+    let set : BlockSet = erasable f e.selected in
+    let end = all_filled f e w m in (
+      goes_on f e w,
+      record {
+        reads = end.0;
+        ones = λ a i y. ap (λ (xs : List ℕ). get_or xs a 0) end.1 ∙ within a i y;
+        others = λ a n. ap (λ (xs : List ℕ). get_or xs a 0) end.1 ∙ spared (blocks f) set 0xFF f.cells a n;
+      },
+    )
+  where
+    within : (a : ℕ) → inside f a ≡ true → lies_in f (erasable f e.selected) a ≡ true
+        → get_or (filled (blocks f) (erasable f e.selected) 0xFF f.cells) a 0 ≡ 0xFF
+    within a i y =
+        let k : a < length f.cells = omega (arith, sound.whole, ltb-true _ _ i) in
+        let r : ltb (block_of (blocks f) a) (length (blocks f)) ≡ true = lt-ltb _ _ (every_block f.setup.kind a (ltb-true _ _ i)) in
+        filled_at (blocks f) (erasable f e.selected) 0xFF f.cells a k
+        ∙ ap (λ (x : Bool). cond (x && lies_in f (erasable f e.selected) a) 0xFF (cell f a)) r
+        ∙ ap (λ (x : Bool). cond x 0xFF (cell f a)) y
+
+pub ends_failed : (f : Flash) (e : Erase) → Works f e → meets (erasable f e.selected) f.setup.worn ≡ true
+    → ((n : ℕ) → n < e.left → StillErasing f e n (passed n f)) × ((passed e.left f).state ≡ Failed 0xFF e.toggle)
+    × ((n : ℕ) → (passed n f).cells ≡ f.cells)
+ends_failed f e w m =
+    let end = comes_to f e w in
+    let state : (passed e.left f).state ≡ Failed 0xFF e.toggle = end.state ∙ ap (λ (x : Bool). cond x (Failed 0xFF e.toggle) read_mode) m in
+    let cells : (passed e.left f).cells ≡ f.cells =
+    end.cells ∙ ap (λ (x : Bool). cond x f.cells (filled (blocks f) (erasable f e.selected) 0xFF f.cells)) m in (
+      goes_on f e w,
+      state,
+      λ n. elim (cases_lt n e.left) [
+        | inl k ↦ (goes_on f e w n k).cells
+        | inr k ↦ (rests e.left n f k (ap due state)).cells ∙ cells
+      ],
+    )
+
+-- One that has just begun has all of its time left.
+begun_works : (f : Flash) (e : Erase) (t : ℕ) → Begins f e → erase_time f e.selected ≡ t → 1 ≤ t → Works f e
+begun_works f e t b q h = record { erasing = b.erasing; phase = b.phase; left = omega (arith, b.whole, q) }
 
 -- how long the erasing lasts, case by case
 time_sound : (f : Flash) (set : BlockSet) → 1 ≤ count_of (erasable f set) → spoils f set ≡ false
@@ -110,25 +161,8 @@ erases f e sound b c m =
     let q : erase_time f e.selected ≡ t = time_sound f e.selected c m in
     let l = limits f.setup sound.limits in
     let h : 1 ≤ t = omega (arith, mul-le 1 1 (count_of set) f.setup.erase c l.erase_low) in
-    let end = comes_to f e t b q h in
-    let cells : (passed t f).cells ≡ filled (blocks f) set 0xFF f.cells =
-    end.cells ∙ ap (λ (x : Bool). cond x f.cells (filled (blocks f) set 0xFF f.cells)) m in (
-      goes_on f e t b q h,
-      record {
-        reads = end.state ∙ ap (λ (x : Bool). cond x (Failed 0xFF e.toggle) read_mode) m;
-        ones = λ a i y. ap (λ (xs : List ℕ). get_or xs a 0) cells ∙ within f set a sound i y;
-        others = λ a n. ap (λ (xs : List ℕ). get_or xs a 0) cells ∙ spared (blocks f) set 0xFF f.cells a n;
-      },
-    )
-  where
-    within : (f : Flash) (set : BlockSet) (a : ℕ) → Sound f → inside f a ≡ true → lies_in f set a ≡ true
-        → get_or (filled (blocks f) set 0xFF f.cells) a 0 ≡ 0xFF
-    within f set a sound i y =
-        let k : a < length f.cells = omega (arith, sound.whole, ltb-true _ _ i) in
-        let r : ltb (block_of (blocks f) a) (length (blocks f)) ≡ true = lt-ltb _ _ (every_block f.setup.kind a (ltb-true _ _ i)) in
-        filled_at (blocks f) set 0xFF f.cells a k
-        ∙ ap (λ (x : Bool). cond (x && lies_in f set a) 0xFF (cell f a)) r
-        ∙ ap (λ (x : Bool). cond x 0xFF (cell f a)) y
+    subst (λ (t : ℕ). ((n : ℕ) → n < t → StillErasing f e n (passed n f)) × Erased f set (passed t f)) (b.whole ∙ q)
+    (ends_erased f e sound (begun_works f e t b q h) m)
 
 pub fails : (f : Flash) (e : Erase) → Begins f e → meets (erasable f e.selected) f.setup.worn ≡ true
     → ((n : ℕ) → n < count_of (erasable f e.selected) * longest_erase → StillErasing f e n (passed n f))
@@ -140,32 +174,24 @@ fails f e b m =
     let t : ℕ = count_of set * longest_erase in
     let q : erase_time f e.selected ≡ t = time_worn f e.selected c m in
     let h : 1 ≤ t = omega arith in
-    let end = comes_to f e t b q h in
-    let state : (passed t f).state ≡ Failed 0xFF e.toggle = end.state ∙ ap (λ (x : Bool). cond x (Failed 0xFF e.toggle) read_mode) m in
-    let cells : (passed t f).cells ≡ f.cells = end.cells ∙ ap (λ (x : Bool). cond x f.cells (filled (blocks f) set 0xFF f.cells)) m in (
-      goes_on f e t b q h,
-      state,
-      λ n. elim (cases_lt n t) [
-        | inl k ↦ (goes_on f e t b q h n k).cells
-        | inr k ↦ (rests t n f k (ap due state)).cells ∙ cells
-      ],
-    )
+    subst
+    (λ (t : ℕ). ((n : ℕ) → n < t → StillErasing f e n (passed n f)) × ((passed t f).state ≡ Failed 0xFF e.toggle)
+        × ((n : ℕ) → (passed n f).cells ≡ f.cells))
+    (b.whole ∙ q) (ends_failed f e (begun_works f e t b q h) m)
 
 pub refuses : (f : Flash) (e : Erase) → Begins f e → count_of (erasable f e.selected) ≡ 0
     → ((n : ℕ) → n < protected_erase → StillErasing f e n (passed n f))
     × ((passed protected_erase f).state ≡ read_mode) × ((passed protected_erase f).cells ≡ f.cells)
 refuses f e b c =
     let set : BlockSet = erasable f e.selected in
-    let m : meets set f.setup.worn ≡ false = no_block set f.setup.worn c in
     let q : erase_time f e.selected ≡ protected_erase = time_none f e.selected c in
-    let h : 1 ≤ protected_erase = lit≤ tt in
-    let end = comes_to f e protected_erase b q h in
-    let cells : (passed protected_erase f).cells ≡ filled (blocks f) set 0xFF f.cells =
-    end.cells ∙ ap (λ (x : Bool). cond x f.cells (filled (blocks f) set 0xFF f.cells)) m in (
-      goes_on f e protected_erase b q h,
-      end.state ∙ ap (λ (x : Bool). cond x (Failed 0xFF e.toggle) read_mode) m,
-      cells ∙ ext_get_or 0 _ _ (length_filled (blocks f) set 0xFF f.cells) (λ k _. spared (blocks f) set 0xFF f.cells k (out (block_of (blocks f) k))),
-    )
+    let w : Works f e = begun_works f e protected_erase b q (lit≤ tt) in
+    let end = all_filled f e w (no_block set f.setup.worn c) in
+    let cells : (passed e.left f).cells ≡ f.cells =
+    end.1 ∙ ext_get_or 0 _ _ (length_filled (blocks f) set 0xFF f.cells) (λ k _. spared (blocks f) set 0xFF f.cells k (out (block_of (blocks f) k))) in
+    subst
+    (λ (t : ℕ). ((n : ℕ) → n < t → StillErasing f e n (passed n f)) × ((passed t f).state ≡ read_mode) × ((passed t f).cells ≡ f.cells))
+    (b.whole ∙ q) (goes_on f e w, end.0, cells)
   where
     no_block : (set other : BlockSet) → count_of set ≡ 0 → meets set other ≡ false
     no_block set other c = elim (cases_Bool (meets set other)) [

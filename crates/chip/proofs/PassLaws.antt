@@ -15,7 +15,7 @@ use Rattle.chip.specs.Resets.{after_reset}
 use Rattle.chip.specs.Laws.{busy, has_failed, PassLaws, ResetLaws, AllSound}
 use Rattle.chip.proofs.Passing.{passed_is, passed_split, passed_still}
 use Rattle.chip.proofs.CellLaws.{passed_keeps, passed_clears, reset_keeps, reset_clears, reset_own_cell, reset_never_sets}
-use Rattle.chip.proofs.Lasting.{own_cell, stands_still, stopping_until, stopping_over, erases, fails, refuses}
+use Rattle.chip.proofs.Lasting.{own_cell, stands_still, stopping_until, stopping_over, ends_erased, ends_failed, erases, fails, refuses}
 
 -- an operation goes on, has ended in read mode, or has failed
 data Course : State → Type 0 where
@@ -83,6 +83,8 @@ pass_laws = record {
   own_cell = own_cell;
   stands_still = stands_still;
   suspends = λ f e wait s h. (λ n k. stopping_until f e wait s n k, stopping_over f e wait s h);
+  ends_erased = ends_erased;
+  ends_failed = ends_failed;
   erases = erases;
   fails = fails;
   refuses = refuses;

@@ -74,6 +74,12 @@ First f a = (inside f a ≡ true) × (low_bits (commands f) a ≡ (commands f).f
 abbrev pub SecondAddress : Flash → ℕ → Type 0
 SecondAddress f a = (inside f a ≡ true) × (low_bits (commands f) a ≡ (commands f).second)
 
+-- An erasing goes on, with time left: as it began, or after a suspension.
+pub record Works (f : Flash) (e : Erase) : Type 0 where
+  pub erasing : f.state ≡ Erasing e
+  pub phase : e.phase ≡ Begun
+  pub left : 1 ≤ e.left
+
 -- An erasing has just begun: all the time that it takes is left.
 pub record Begins (f : Flash) (e : Erase) : Type 0 where
   pub erasing : f.state ≡ Erasing e
@@ -197,6 +203,14 @@ pub record PassLaws : Type 0 where
   -- The chip is suspended when its S microseconds are over, and not before.
   pub suspends : (f : Flash) (e : Erase) (wait : ℕ) → f.state ≡ Suspending e wait → 1 ≤ wait
       → ((n : ℕ) → n < wait → (passed n f).state ≡ Suspending e (wait - n)) × ((passed wait f).state ≡ Suspended e)
+  -- An erasing of blocks of which none is worn has erased them when the time that is left has passed, however often it was suspended before, and has
+  -- changed nothing until then.
+  pub ends_erased : (f : Flash) (e : Erase) → Sound f → Works f e → meets (erasable f e.selected) f.setup.worn ≡ false
+      → ((n : ℕ) → n < e.left → StillErasing f e n (passed n f)) × Erased f (erasable f e.selected) (passed e.left f)
+  -- Where one of them is worn it fails then, and never changes a cell.
+  pub ends_failed : (f : Flash) (e : Erase) → Works f e → meets (erasable f e.selected) f.setup.worn ≡ true
+      → ((n : ℕ) → n < e.left → StillErasing f e n (passed n f)) × ((passed e.left f).state ≡ Failed 0xFF e.toggle)
+      × ((n : ℕ) → (passed n f).cells ≡ f.cells)
   -- An erasing of c blocks, none of them worn, has erased them after c x E microseconds, and has changed nothing before.
   pub erases : (f : Flash) (e : Erase) → Sound f → Begins f e → 1 ≤ count_of (erasable f e.selected) → meets (erasable f e.selected) f.setup.worn ≡ false
       → ((n : ℕ) → n < count_of (erasable f e.selected) * f.setup.erase → StillErasing f e n (passed n f))
