@@ -1,4 +1,4 @@
--- What holds of the books whatever is stored in them, in the words of the workshop. The calls' contracts name these laws; they
+-- What holds of the books whatever is stored in them. The calls' contracts name these laws; they
 -- speak of the definitions that the same contracts use.
 use Rattle.std.specs.Prelude.{◌≡◌, ℕ, ◌+◌, ◌<◌, ◌≤◌, true, false, cond, List, Some, None, Ok, Err, Option, Result, ◌==◌, slice_index}
 use Rattle.fault.specs.declared.cause.Cause.TheVariants.{Worn}

@@ -145,6 +145,3 @@ reset_never_sets f a b t = by f.state t
     by (Suspending e w) t = by_phase e e.phase t
     by (Suspended e) t = by_phase e e.phase t
     by (Failed m u) t = t
-
-pub reset_clears : OnlyClears after_reset
-reset_clears f n a b t = reset_never_sets f a b t

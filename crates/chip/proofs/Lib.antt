@@ -1,7 +1,6 @@
 pub mod CellLaws
 pub mod Lasting
 pub mod Limits
-pub mod MakingLaws
 pub mod PassLaws
 pub mod Passing
 pub mod RunLaws

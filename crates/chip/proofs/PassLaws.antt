@@ -14,7 +14,7 @@ use Rattle.chip.specs.Times.{programmed, spoils, erased, ended, due, lowered, st
 use Rattle.chip.specs.Resets.{after_reset}
 use Rattle.chip.specs.Laws.{busy, has_failed, PassLaws, ResetLaws, AllSound}
 use Rattle.chip.proofs.Passing.{passed_is, passed_split, passed_still}
-use Rattle.chip.proofs.CellLaws.{passed_keeps, passed_clears, reset_keeps, reset_clears, reset_own_cell, reset_never_sets}
+use Rattle.chip.proofs.CellLaws.{passed_keeps, passed_clears, reset_keeps, reset_own_cell, reset_never_sets}
 use Rattle.chip.proofs.Lasting.{own_cell, stands_still, stopping_until, stopping_over, ends_erased, ends_failed, erases, fails, refuses}
 
 -- an operation goes on, has ended in read mode, or has failed
@@ -96,7 +96,6 @@ reset_laws = record {
   reads = λ f. refl;
   no_time = λ f. refl;
   keeps_blocks = reset_keeps;
-  only_clears = reset_clears;
   own_cell = reset_own_cell;
   never_sets = reset_never_sets;
 }

@@ -1,4 +1,4 @@
--- What holds of the chip whatever it is doing, in the words of the workshop. The calls' contracts name these laws; they
+-- What holds of the chip whatever it is doing. The calls' contracts name these laws; they
 -- speak of the definitions that the same contracts use.
 use Rattle.std.specs.Prelude.{◌≡◌, ℕ, ◌+◌, ◌-◌, ◌*◌, ◌%◌, ◌<◌, ◌≤◌, Bool, true, false, ◌||◌, length, ◌≢◌, ◌==◌}
 use Rattle.geometry.specs.declared.datasheet.Commands.{Commands}
@@ -230,7 +230,6 @@ pub record ResetLaws : Type 0 where
   pub reads : (f : Flash) → (after_reset f).state ≡ read_mode
   pub no_time : (f : Flash) → (after_reset f).clock ≡ f.clock
   pub keeps_blocks : KeepsBlocks after_reset
-  pub only_clears : OnlyClears after_reset
   -- In a program it changes that program's cell alone.
   pub own_cell : (f : Flash) (p : Program) → f.state ≡ Programming p → (a : ℕ) → (a ≢ p.address) → cell (after_reset f) a ≡ cell f a
   -- Whatever it breaks off, no bit of a cell goes from 0 to 1.

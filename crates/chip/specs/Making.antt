@@ -1,5 +1,5 @@
 -- The making of a chip.
-use Rattle.std.specs.Prelude.{◌≡◌, ℕ, true, false, if◌then◌else◌, List, [], length, replicate, Ok, Err, Result}
+use Rattle.std.specs.Prelude.{◌≡◌, ℕ, Bool, true, false, if◌then◌else◌, List, [], length, replicate, Ok, Err, Result}
 use Rattle.fault.specs.declared.cause.Cause.TheVariants.{UnfitMaking}
 use Rattle.fault.specs.declared.faults.ChipFault.{ChipFault}
 use Rattle.geometry.specs.Plans.{plan_of}
@@ -15,9 +15,13 @@ use Rattle.chip.specs.Writes.{read_mode}
 abbrev pub unfit : ChipFault
 unfit = record { cause = UnfitMaking; place = 0 }
 
+-- what a call answers that only asks whether something fits
+abbrev pub fitting : Bool → Result (Unit {0}) ChipFault
+fitting fits = if fits then Ok tt else Err unfit
+
 -- what the checking call answers
 abbrev pub checked : Setup → ℕ → Result (Unit {0}) ChipFault
-checked s len = if fit s len then Ok tt else Err unfit
+checked s len = fitting (fit s len)
 
 -- a chip that has just been made: in read mode, no time passed on it
 abbrev pub fresh : Setup → List ℕ → Flash

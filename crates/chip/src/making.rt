@@ -9,7 +9,7 @@ ghost use Rattle.chip.specs.Runs.{RunLaws};
 ghost use Rattle.chip.specs.Examples.{WorkedExamples, IdentityExamples};
 
 use crate::chip::Chip;
-use crate::setup::{NO_CHIP, Setup, UNFIT};
+use crate::setup::{NO_CHIP, Setup, fitting};
 use crate::time::READ_MODE;
 use crate::unmade::Unmade;
 use fault::ChipFault;
@@ -46,25 +46,22 @@ impl Chip {
     }
 
     /// A chip on this memory, or the refusal of `Setup::check`.
+    #[tactic(auto, unfolding(crate::specs::Making::made))]
     pub fn on(setup: Setup, memory: Vec<u8>) -> Result<Chip, ChipFault>
         ensures { MadeOn setup memory.items result }
     {
-        if setup.fits(memory.len()) {
-            Ok(Chip::fresh(setup, memory))
-        } else {
-            Err(UNFIT)
-        }
+        setup.check(memory.as_slice())?;
+        Ok(Chip::new(setup, memory))
     }
 
     /// A chip as it comes from the factory, FFh throughout. Unfit numbers are refused before memory is asked for.
+    #[tactic(auto, unfolding(crate::specs::Making::made))]
     pub fn blank(heap: Global, setup: Setup) -> Result<Chip, Unmade>
         ensures { MadeBlank setup result }
     {
         let size = setup.size();
-        if !setup.fits(size) {
-            return Err(Unmade::Refused(UNFIT));
-        }
+        fitting(setup.fits(size))?;
         let memory = vec![in heap; 0xFFu8; size]?;
-        Ok(Chip::fresh(setup, memory))
+        Ok(Chip::new(setup, memory))
     }
 }

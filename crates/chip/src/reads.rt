@@ -5,13 +5,13 @@ ghost use Rattle.chip.specs.Reads.{erase_status, shown, flip_erase, flipped};
 
 use crate::chip::Chip;
 use crate::state::{Erase, Phase, State};
-use flash::{Mode, SUSPENDED_STATUS, identity, status};
+use flash::{ERASED, Mode, SUSPENDED_STATUS, identity, status};
 
 impl Erase {
     fn status(self) -> u8
         ensures { result ≡ erase_status self }
     {
-        status(0xFF, self.toggle, false, self.phase == Phase::Erasing)
+        status(ERASED, self.toggle, false, self.phase == Phase::Erasing)
     }
 
     fn flip(&mut self)

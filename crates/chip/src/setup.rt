@@ -2,7 +2,7 @@
 ghost use Rattle.std.specs.Prelude.{◌≡◌, length};
 ghost use Rattle.geometry.specs.Plans.{plan_of};
 ghost use Rattle.chip.specs.Setups.{in_limits, fit};
-ghost use Rattle.chip.specs.Making.{checked};
+ghost use Rattle.chip.specs.Making.{fitting, checked};
 
 use fault::{Cause, ChipFault};
 use flash::{erase_fits, program_fits, suspend_fits};
@@ -35,11 +35,19 @@ pub(crate) const NO_CHIP: Setup = Setup {
     worn: BlockSet::NONE,
 };
 
-// Why a chip is not made of some numbers, or on some memory.
-pub(crate) const UNFIT: ChipFault = ChipFault {
-    cause: Cause::UnfitMaking,
-    place: 0,
-};
+// Refuses what does not fit.
+pub(crate) fn fitting(fits: bool) -> Result<(), ChipFault>
+    ensures { result ≡ fitting fits }
+{
+    if fits {
+        Ok(())
+    } else {
+        Err(ChipFault {
+            cause: Cause::UnfitMaking,
+            place: 0,
+        })
+    }
+}
 
 impl Setup {
     fn in_limits(&self) -> bool
@@ -71,10 +79,6 @@ impl Setup {
     pub fn check(&self, memory: &[u8]) -> Result<(), ChipFault>
         ensures { result ≡ checked self.now (length memory.now) }
     {
-        if self.fits(memory.len()) {
-            Ok(())
-        } else {
-            Err(UNFIT)
-        }
+        fitting(self.fits(memory.len()))
     }
 }

@@ -7,7 +7,7 @@ ghost use Rattle.chip.specs.Times.{programmed, erase_time, erased, ended, due, w
 
 use crate::chip::Chip;
 use crate::state::{Erase, Phase, Program, State};
-use flash::{Mode, Place};
+use flash::{ERASED, Mode, Place};
 use geometry::BlockSet;
 
 // Takes n microseconds off those that are left, of which at least one is, and answers none. Where they are over by then, they stay, and are the answer.
@@ -22,9 +22,6 @@ fn run_down(left: &mut u32, n: u32) -> Option<u32>
     *left = left.saturating_sub(n);
     None
 }
-
-// The byte that an erase is to leave in a cell.
-const ERASED: u8 = 0xFF;
 
 pub(crate) const READ_MODE: State = State::Ready(Mode::Read, Place::Start);
 

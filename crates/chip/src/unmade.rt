@@ -1,5 +1,5 @@
 ghost use Rattle.std.specs.Prelude.{◌≡◌};
-ghost use Rattle.chip.specs.declared.unmade.Unmade.TheVariants.{Memory};
+ghost use Rattle.chip.specs.declared.unmade.Unmade.TheVariants.{Refused, Memory};
 
 use fault::ChipFault;
 use std::alloc::AllocError;
@@ -11,6 +11,14 @@ pub enum Unmade {
     Refused(ChipFault),
     /// There was no memory for its cells.
     Memory,
+}
+
+impl From<ChipFault> for Unmade {
+    ghost from_gives = { λ f e. e ≡ Refused f };
+
+    fn from(fault: ChipFault) -> Unmade {
+        Unmade::Refused(fault)
+    }
 }
 
 impl From<AllocError> for Unmade {

@@ -1,4 +1,4 @@
--- Reads in ID mode: address bits A6, A1 and A0 choose.
+-- Reads in ID mode: three address bits choose, which the data sheet names.
 use Rattle.std.specs.Prelude.{ℕ, Bool, true, false, if◌then◌else◌}
 use Rattle.geometry.specs.declared.datasheet.Choice.{Choice}
 use Rattle.geometry.specs.declared.datasheet.Sheet.{Sheet}
@@ -7,7 +7,7 @@ use Rattle.flash.specs.declared.reads.Question.{Question}
 use Rattle.flash.specs.declared.reads.Question.TheVariants.{Maker, Device, Protection, Nothing}
 use Rattle.flash.specs.Grounds.{Ground, is_protected}
 
--- what is asked, by address bits A6, A1 and A0
+-- what is asked, by the bits that choose: the high one, the middle one and the low one
 abbrev pub question : Bool → Bool → Bool → Question
 question false false false = Maker
 question false false true = Device

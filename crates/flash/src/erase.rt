@@ -8,6 +8,9 @@ use crate::ground::Ground;
 use crate::limits::{LONGEST_ERASE, PROTECTED_ERASE};
 use geometry::BlockSet;
 
+/// What an erase leaves in a cell.
+pub const ERASED: u8 = 0xFF;
+
 impl Ground {
     /// The selected blocks that an erase works on: those that are not protected.
     pub fn erasable(&self, selected: BlockSet) -> BlockSet
@@ -45,7 +48,7 @@ impl Ground {
         ensures { cells.new ≡ after_erase (ground self.now) selected cells.old }
     {
         if !self.spoils(selected) {
-            self.row.fill(cells, self.erasable(selected), 0xFF);
+            self.row.fill(cells, self.erasable(selected), ERASED);
         }
     }
 

@@ -1,4 +1,4 @@
-//! What all families of NOR flash chips share: the command sequences, what a program and an erase do and how long they last, what a reset leaves,
+//! What chips with this command set share: the command sequences, what a program and an erase do and how long they last, what a reset leaves,
 //! and what a status read and a read in ID mode answer. A family has states of its own, and hands the work on cells to this crate.
 #![tactic(auto)]
 
@@ -9,6 +9,7 @@ mod program;
 mod reads;
 mod sequence;
 
+pub use erase::ERASED;
 pub use ground::Ground;
 pub use limits::{
     LONGEST_ERASE, LONGEST_PROGRAM, LONGEST_SUSPENSION, PROTECTED_ERASE, PROTECTED_PROGRAM, WINDOW,

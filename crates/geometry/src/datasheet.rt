@@ -30,7 +30,7 @@ fn low_bits(bits: u32, address: u32) -> u32
     }
 }
 
-/// The address bits that choose what a read in ID mode gives, by their places: A0, A1 and A6.
+/// The address bits that choose what a read in ID mode gives, by their places.
 #[derive(Clone, Copy, Debug, PartialEq, Eq)]
 pub struct Choice {
     pub low: u32,

@@ -1,5 +1,5 @@
 // The geometries by a plain number, which is what a chip keeps: each call goes to the one text that is generic over them.
-// A number and no enum: it is a rule of the project, and every number that a caller can write down has a meaning here.
+// A number and no enum, so that every number that a caller can write down has a meaning here.
 ghost use Rattle.std.specs.Prelude.{◌≡◌, ℕ, ◌≤◌, length};
 ghost use Rattle.geometry.specs.Blocks.{block_of};
 ghost use Rattle.geometry.specs.DataSheets.{AsTheSheetsSay};

@@ -1,5 +1,5 @@
 // Blocks in a row, which is all that work on cells knows of a chip's geometry.
-ghost use Rattle.std.specs.Prelude.{◌≡◌, length, position};
+ghost use Rattle.std.specs.Prelude.{◌≡◌, position};
 ghost use Rattle.geometry.specs.Plans.{holds};
 ghost use Rattle.geometry.specs.Rows.{Unbroken};
 
@@ -32,14 +32,6 @@ impl Row {
         ensures { sizes result ≡ G.Geometry.plan.sizes }
     {
         Row { blocks: G::table() }
-    }
-
-    /// How many blocks there are.
-    #[tactic(auto, using(crate::proofs::Placing::table_long))]
-    pub fn count(&self) -> usize
-        ensures { result ≡ length (sizes self.now) }
-    {
-        self.blocks.len()
     }
 
     /// The block that an address lies in; past the last block, the number of blocks.

@@ -21,7 +21,7 @@ pub trait Geometry {
 
     ghost CODE: { ℕ };
 
-    /// How many blocks the chip has. A constant beside the table, since a rule of the project wants the count as one.
+    /// How many blocks the chip has. A constant beside the table, so that it can stand where a constant is wanted.
     const BLOCKS: usize;
 
     ghost BLOCKS: { ℕ };

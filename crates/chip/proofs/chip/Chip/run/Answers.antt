@@ -1,7 +1,7 @@
-use Rattle.std.proofs.Common.{◌≡◌, ℕ, ◌+◌, ◌-◌, cond, is_some, Some, None, Option, sym, ap, ◌∙◌, arith}
+use Rattle.std.proofs.Common.{◌≡◌, ℕ, ◌+◌, ◌-◌, cond, is_some, Option, sym, ap, ◌∙◌, arith}
 use Rattle.chip.specs.declared.state.State.{State}
 use Rattle.chip.specs.Flash.{view}
-use Rattle.chip.specs.Times.{due, within, lowered, ended, steps}
+use Rattle.chip.specs.Times.{due, lowered, ended, steps}
 use Rattle.chip.proofs.Updates.{with_state}
 use Rattle.chip.proofs.Passing.{Ends, within_some, outlasted, over, steps_split}
 use Rattle.chip.proofs.chip.Chip.run.Goals as goal
