@@ -27,7 +27,7 @@ pub no_erasure : (e : Option Erasure) → is_some e ≡ false → e ≡ None
 no_erasure None h = refl
 no_erasure (Some e) h = absurd (true≢false h)
 
-idle_still : (e : Option Erasure) → is_some e ≡ false → running e ≡ false
+pub idle_still : (e : Option Erasure) → is_some e ≡ false → running e ≡ false
 idle_still None h = refl
 idle_still (Some e) h = absurd (true≢false h)
 

@@ -1,11 +1,11 @@
 -- One pass after another is one pass of both times.
-use Rattle.std.proofs.Common.{◌≡◌, ℕ, ◌+◌, ◌-◌, ◌<◌, ◌≤◌, Bool, true, false, cond, ltb, leb, Some, None, Ok, Option, Result, sym, refl, ap, ◌∙◌, subst, inl, inr, arith}
+use Rattle.std.proofs.Common.{◌≡◌, ℕ, ◌+◌, ◌-◌, ◌<◌, ◌≤◌, Bool, true, false, cond, ltb, leb, Some, None, Ok, Option, Result, sym, refl, ap, ◌∙◌, inl, inr, arith}
 use Rattle.std.proofs.lemmas.Bool.{lt-ltb, le-ltb, le-leb, cases_lt, cases_Bool, cond-true, cond-false}
 use Rattle.std.proofs.lemmas.Bool.Decides.{nat_tests}
 use Rattle.fault.specs.declared.cause.Cause.TheVariants.{TimeTooLong}
 use Rattle.fault.specs.declared.faults.PartFault.{PartFault}
 use Rattle.part.specs.declared.answers.Progress.{Progress}
-use Rattle.part.specs.declared.answers.Progress.TheVariants.{Idle, Running, Suspended, Finished, Worn}
+use Rattle.part.specs.declared.answers.Progress.TheVariants.{Running, Suspended, Finished, Worn}
 use Rattle.part.specs.Meaning.{Erasure, Meaning, worn, with_erasure, ticked}
 use Rattle.part.specs.Calls.{longest, time_no, answer, run_on, passed, progress, after_pass}
 use Rattle.part.specs.Neighbours.{found_then}

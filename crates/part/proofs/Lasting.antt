@@ -10,11 +10,11 @@ use Rattle.part.specs.declared.answers.Progress.TheVariants.{Running}
 use Rattle.part.specs.declared.answers.Turn.{Turn}
 use Rattle.part.specs.declared.answers.Turn.TheVariants.{Done, Nothing}
 use Rattle.part.specs.Meaning.{Erasure, Meaning, size, count, cell, block, guarded, worn, with_cells, with_erasure, ticked, ErasureLawful, Lawful}
-use Rattle.part.specs.Calls.{longest, stands, burn_no, begin_no, Took, Refused, BurntBy, Burnt, BegunBy, turned, can_hold, HeldBy, Held, gone_on, erased, run_on, passed, progress, after_pass}
+use Rattle.part.specs.Calls.{longest, longest_burn, longest_hold, stands, bars, burn_no, begin_no, Took, Refused, BurntBy, Burnt, BegunBy, turned, can_hold, HeldBy, Held, gone_on, erased, run_on, passed, progress, after_pass}
 use Rattle.part.specs.Laws.{Call, look, burn, begin, hold, go_on, pass, Made, Run, none, more, spares, AllSpare, SameBlocks, PartLaws}
 use Rattle.part.proofs.Clocks.{ticked_more}
 use Rattle.part.proofs.Granting.{burnable, erasable}
-use Rattle.part.proofs.Standings.{unbarred}
+use Rattle.part.proofs.Standings.{bars_own}
 
 same_blocks : (m n : Meaning) → n ≡ m → SameBlocks m n
 same_blocks m n e = record {
@@ -66,12 +66,12 @@ module _ (m : Meaning) (a : ℕ)
   itself = record { blocks = same_blocks m m refl; same = refl }
 
   refused_kept : (t : Bool) (n : Meaning) → Refused t m n → Kept m n a
-  refused_kept true n r = took_kept 0 300 m n r itself
+  refused_kept true n r = took_kept 0 longest_burn m n r itself
   refused_kept false n r = subst (λ (y : Meaning). Kept m y a) (sym r) itself
 
   burnt_kept : (o : Option Cause) (x byte : ℕ) (n : Meaning) → (o ≡ None → x ≡ a → ⊥) → BurntBy m x byte o n → Kept m n a
   burnt_kept None x byte n s t =
-      took_kept 1 300 (with_cells m (set m.cells x byte)) n t
+      took_kept 1 longest_burn (with_cells m (set m.cells x byte)) n t
       (record {
         blocks = record { sizes = refl; guards = refl; wears = refl; size = length-set m.cells x byte };
         same = get_or-set_other m.cells x a byte 0 (λ e. s refl (sym e));
@@ -83,7 +83,7 @@ module _ (m : Meaning) (a : ℕ)
   begun_kept (Some c) b n t = subst (λ (y : Meaning). Kept m y a) (sym t) itself
 
   held_kept : (t : Turn) (n : Meaning) → HeldBy m t n → Kept m n a
-  held_kept Done n t = took_kept 0 15 (with_erasure m (turned false m.erasure)) n t (record { blocks = record { sizes = refl; guards = refl; wears = refl; size = refl }; same = refl })
+  held_kept Done n t = took_kept 0 longest_hold (with_erasure m (turned false m.erasure)) n t (record { blocks = record { sizes = refl; guards = refl; wears = refl; size = refl }; same = refl })
   held_kept Nothing n t = subst (λ (y : Meaning). Kept m y a) (sym t) itself
 
   passed_kept : (n : ℕ) → Kept m (after_pass m n) a
@@ -123,11 +123,11 @@ module _ (m : Meaning) (P : ℕ → Type 0) (p : On P m.erasure) where
   took_on least most x n t q = subst (λ (y : Meaning). On P y.erasure) (sym t.is) q
 
   refused_on : (t : Bool) (n : Meaning) → Refused t m n → On P n.erasure
-  refused_on true n r = took_on 0 300 m n r p
+  refused_on true n r = took_on 0 longest_burn m n r p
   refused_on false n r = subst (λ (y : Meaning). On P y.erasure) (sym r) p
 
   burnt_on : (o : Option Cause) (x byte : ℕ) (n : Meaning) → BurntBy m x byte o n → On P n.erasure
-  burnt_on None x byte n t = took_on 1 300 (with_cells m (set m.cells x byte)) n t p
+  burnt_on None x byte n t = took_on 1 longest_burn (with_cells m (set m.cells x byte)) n t p
   burnt_on (Some c) x byte n t = refused_on (eqb (number_of c) 8) n t
 
   begun_on : (o : Option Cause) (b : ℕ) (n : Meaning) → (o ≡ None → P b) → BegunBy m b o n → On P n.erasure
@@ -135,7 +135,7 @@ module _ (m : Meaning) (P : ℕ → Type 0) (p : On P m.erasure) where
   begun_on (Some c) b n s t = subst (λ (y : Meaning). On P y.erasure) (sym t) p
 
   held_on : (t : Turn) (n : Meaning) → HeldBy m t n → On P n.erasure
-  held_on Done n t = took_on 0 15 (with_erasure m (turned false m.erasure)) n t (turned_on P false m.erasure p)
+  held_on Done n t = took_on 0 longest_hold (with_erasure m (turned false m.erasure)) n t (turned_on P false m.erasure p)
   held_on Nothing n t = subst (λ (y : Meaning). On P y.erasure) (sym t) p
 
   call_on : (c : Call) (n : Meaning) → ((b : ℕ) → c ≡ begin b → begin_no m b ≡ None → P b) → Made m c n → On P n.erasure
@@ -196,7 +196,7 @@ lasts : (m k n : Meaning) (a byte : ℕ) (cs : List Call) → Lawful m → burn_
     → Run k cs n → AllSpare a (block m a) cs → cell n a ≡ byte
 lasts m k n a byte cs w free t r f =
     let g = burnable m a byte free in
-    let took : Took 1 300 (with_cells m (set m.cells a byte)) k = subst (λ (o : Option Cause). BurntBy m a byte o k) free t in
+    let took : Took 1 longest_burn (with_cells m (set m.cells a byte)) k = subst (λ (o : Option Cause). BurntBy m a byte o k) free t in
     let x : Meaning = with_cells m (set m.cells a byte) in
     let sizes : k.sizes ≡ m.sizes = ap (λ (y : Meaning). y.sizes) took.is in
     let long : size k ≡ size m = ap (λ (y : Meaning). size y) took.is ∙ length-set m.cells a byte in
@@ -207,8 +207,13 @@ lasts m k n a byte cs w free t r f =
     (λ j l y z q d. q)
     (λ j l b q d. (omega (arith, (erasable j b d).within, ap length (l.sizes ∙ sizes)), q))
     k n cs r f (same_blocks k k refl)
-    (subst (On P) (sym (ap (λ (y : Meaning). y.erasure) took.is)) (nothing_stands m.erasure P (unbarred m (block m a) g.free))) byte
+    (subst (On P) (sym (ap (λ (y : Meaning). y.erasure) took.is)) (first m.erasure refl w.erasure)) byte
     (ap (λ (y : Meaning). cell y a) took.is ∙ get_or-set_same m.cells a byte 0 g.within)
+  where
+    -- the erasure that stands, if any, is of another block, since it would bar its own
+    first : (o : Option Erasure) → m.erasure ≡ o → ErasureLawful (count m) o → On (λ b. (b < count m) × (b ≡ block m a → ⊥)) o
+    first None d l = tt
+    first (Some e) d l = ((l.0, λ q. both_ways _ (ap (bars m) q ∙ (burnable m a byte free).free) (bars_own m e d)), l.1)
 
 all_fine : (cs : List Call) → All (λ _. Unit {0}) cs
 all_fine [] = tt
@@ -257,9 +262,9 @@ there_and_back (Some x) e = by x.running refl e
     by true d e = ap (λ (t : Bool). Some (record { block = x.block; left = x.left; running = t })) (sym d)
     by false d e = let z : ◌≡◌ {A = ℕ} 0 1 = cc in absurd (omega arith)
 
-held_and_gone : (m n : Meaning) → can_hold m.erasure ≡ Done → Held m n → (t : ℕ) × (t ≤ 15) × (gone_on n ≡ ticked m t)
+held_and_gone : (m n : Meaning) → can_hold m.erasure ≡ Done → Held m n → (t : ℕ) × (t ≤ longest_hold) × (gone_on n ≡ ticked m t)
 held_and_gone m n e h =
-    let took : Took 0 15 (with_erasure m (turned false m.erasure)) n = subst (λ (t : Turn). HeldBy m t n) e h in (
+    let took : Took 0 longest_hold (with_erasure m (turned false m.erasure)) n = subst (λ (t : Turn). HeldBy m t n) e h in (
       took.time,
       took.high,
       ap gone_on took.is ∙ ap (λ (o : Option Erasure). ticked (with_erasure m o) took.time) (there_and_back m.erasure e),
