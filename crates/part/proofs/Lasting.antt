@@ -258,8 +258,8 @@ there_and_back : (o : Option Erasure) → can_hold o ≡ Done → turned true (t
 there_and_back None e = refl
 there_and_back (Some x) e = by x.running refl e
   where
-    by : (t : Bool) → x.running ≡ t → cond t Done Nothing ≡ Done → Some (record { block = x.block; left = x.left; running = true }) ≡ Some x
-    by true d e = ap (λ (t : Bool). Some (record { block = x.block; left = x.left; running = t })) (sym d)
+    by : (t : Bool) → x.running ≡ t → cond t Done Nothing ≡ Done → Some (record x { running = true }) ≡ Some x
+    by true d e = ap (λ (t : Bool). Some (record x { running = t })) (sym d)
     by false d e = let z : ◌≡◌ {A = ℕ} 0 1 = cc in absurd (omega arith)
 
 held_and_gone : (m n : Meaning) → can_hold m.erasure ≡ Done → Held m n → (t : ℕ) × (t ≤ longest_hold) × (gone_on n ≡ ticked m t)
@@ -275,8 +275,8 @@ run_ticked : (x : Meaning) (a n : ℕ) (o : Option Erasure) → run_on (ticked x
 run_ticked x a n None = refl
 run_ticked x a n (Some e) = by e.running (ltb n e.left)
   where
-    by : (r l : Bool) → cond r (cond l (with_erasure (ticked x a) (Some (record { block = e.block; left = e.left - n; running = true }))) (with_erasure (with_cells (ticked x a) (erased x e.block)) None)) (ticked x a)
-        ≡ ticked (cond r (cond l (with_erasure x (Some (record { block = e.block; left = e.left - n; running = true }))) (with_erasure (with_cells x (erased x e.block)) None)) x) a
+    by : (r l : Bool) → cond r (cond l (with_erasure (ticked x a) (Some (record e { left = e.left - n }))) (with_erasure (with_cells (ticked x a) (erased x e.block)) None)) (ticked x a)
+        ≡ ticked (cond r (cond l (with_erasure x (Some (record e { left = e.left - n }))) (with_erasure (with_cells x (erased x e.block)) None)) x) a
     by true true = refl
     by true false = refl
     by false l = refl
@@ -291,7 +291,7 @@ run_twice m a b (Some e) d =
           ap (λ (x : Meaning). run_on x b x.erasure) (still a) ∙ ap (run_on m b) d ∙ still b ∙ sym (still (a + b))
       | inl r ↦ elim (cases_lt a e.left) [
         | inl l ↦
-            let x : Erasure = record { block = e.block; left = e.left - a; running = true } in
+            let x : Erasure = record e { left = e.left - a } in
             let first : run_on m a (Some e) ≡ with_erasure m (Some x) = cond-true e.running _ _ r ∙ cond-true (ltb a e.left) _ _ (lt-ltb a e.left l) in
             ap (λ (y : Meaning). run_on y b y.erasure) first ∙ second l x refl r
         | inr l ↦
@@ -302,18 +302,18 @@ run_twice m a b (Some e) d =
       ]
     ]
   where
-    second : a < e.left → (x : Erasure) → x ≡ record { block = e.block; left = e.left - a; running = true } → e.running ≡ true
+    second : a < e.left → (x : Erasure) → x ≡ record e { left = e.left - a } → e.running ≡ true
         → run_on (with_erasure m (Some x)) b (Some x) ≡ run_on m (a + b) (Some e)
     second l x i r =
         subst (λ (y : Erasure). run_on (with_erasure m (Some y)) b (Some y) ≡ run_on m (a + b) (Some e)) (sym i)
         (elim (cases_lt b (e.left - a)) [
           | inl k ↦
               let n : e.left - a - b ≡ e.left - (a + b) = omega arith in
-              cond-true (ltb b (e.left - a)) _ _ (lt-ltb b (e.left - a) k)
-              ∙ ap (λ (w : ℕ). with_erasure m (Some (record { block = e.block; left = w; running = true }))) n
+              cond-true e.running _ _ r ∙ cond-true (ltb b (e.left - a)) _ _ (lt-ltb b (e.left - a) k)
+              ∙ ap (λ (w : ℕ). with_erasure m (Some (record e { left = w }))) n
               ∙ sym (cond-true e.running _ _ r ∙ cond-true (ltb (a + b) e.left) _ _ (lt-ltb (a + b) e.left (omega arith)))
           | inr k ↦
-              cond-false (ltb b (e.left - a)) _ _ (le-ltb b (e.left - a) k)
+              cond-true e.running _ _ r ∙ cond-false (ltb b (e.left - a)) _ _ (le-ltb b (e.left - a) k)
               ∙ sym (cond-true e.running _ _ r ∙ cond-false (ltb (a + b) e.left) _ _ (le-ltb (a + b) e.left (omega arith)))
         ])
 

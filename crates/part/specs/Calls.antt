@@ -157,7 +157,7 @@ abbrev pub run_on : Meaning → ℕ → Option Erasure → Meaning
 run_on m n None = m
 run_on m n (Some e) =
     if e.running then
-    (if nat_lt n e.left then with_erasure m (Some (record { block = e.block; left = e.left - n; running = true }))
+    (if nat_lt n e.left then with_erasure m (Some (record e { left = e.left - n }))
     else with_erasure (with_cells m (erased m e.block)) None)
     else m
 
