@@ -9,5 +9,5 @@ mod unmade;
 mod work;
 
 pub use array::{Array, Layout};
-pub use making::{LEAST_WIDTH, MOST_BLOCKS, MOST_WIDTH};
+pub use making::{LEAST_WIDTH, MOST_BLOCKS, MOST_WIDTH, UNFIT};
 pub use unmade::Unmade;

@@ -8,7 +8,7 @@ ghost use Rattle.array.specs.Making.{MadeOn, BlankMade};
 use crate::array::{Array, Layout};
 use crate::unmade::Unmade;
 use fault::{Cause, PartFault};
-use part::{Standing, granted};
+use part::Standing;
 use std::alloc::Global;
 
 /// The most blocks of an array.
@@ -43,11 +43,17 @@ impl Layout {
     }
 }
 
+/// The refusal of what does not fit.
+pub const UNFIT: PartFault = PartFault {
+    cause: Cause::UnfitMaking,
+    place: 0,
+};
+
 // Refuses what does not fit.
 fn fitting(fits: bool) -> Result<(), PartFault>
     ensures { result ≡ fitting fits }
 {
-    granted((!fits).then_some(Cause::UnfitMaking), 0)
+    if fits { Ok(()) } else { Err(UNFIT) }
 }
 
 // The layout of a dead array.

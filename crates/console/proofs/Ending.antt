@@ -73,10 +73,10 @@ goes_on m r p =
     let e = r.erasure in
     let t : ltb 1000 e.left ≡ true = not_yet (ltb 1000 e.left) (worn m e.block) (sym (told m r) ∙ p) in
     let l : 1000 < e.left = ltb-true 1000 e.left t in
-    let short : Erasure = record { block = e.block; left = e.left - 1000; running = true } in
+    let short : Erasure = record e { left = e.left - 1000 } in
     let here : run_on m 1000 m.erasure ≡ with_erasure m (Some short) =
     ap (run_on m 1000) r.stands ∙ cond-true e.running _ _ r.running ∙ cond-true (ltb 1000 e.left) _ _ t in
-    let next : RunsOn (passed m 1000) = record { erasure = short; stands = ap (λ (x : Meaning). x.erasure) here; running = refl } in
+    let next : RunsOn (passed m 1000) = record { erasure = short; stands = ap (λ (x : Meaning). x.erasure) here; running = r.running } in
     let sum : 1000 + wait_time (e.left - 1000) ≡ wait_time e.left = omega arith in
     record {
       still = next;

@@ -1,13 +1,13 @@
 -- A read of a chip to which the notes are tied, in the words of a part.
-use Rattle.std.proofs.Common.{◌≡◌, ℕ, true, false, eqb, length, Some, None, Ok, Err, Option, sym, refl, ap, ◌∙◌, subst, inl, inr, arith}
+use Rattle.std.proofs.Common.{◌≡◌, ℕ, true, false, eqb, length, Some, None, Ok, Err, Option, is_some, sym, refl, ap, ◌∙◌, subst, inl, inr, arith}
 use Rattle.std.proofs.lemmas.Bool.{lt-leb, ltb-true, cond-true, cond-false, true≢false, eq-eqb}
 use Rattle.fault.specs.declared.cause.Cause.TheVariants.{ErasureInTheWay}
 use Rattle.part.specs.declared.answers.Standing.{Standing}
 use Rattle.part.specs.declared.answers.Standing.TheVariants.{Idle, Running, Suspended}
 use Rattle.part.specs.Meaning.{Erasure, Meaning, cell, block, standing_of}
-use Rattle.part.specs.Calls.{answer, hides, bars, outside}
+use Rattle.part.specs.Calls.{answer, stands, hides, bars, outside}
 use Rattle.part.specs.Standings.{hid, barred}
-use Rattle.part.proofs.Standings.{hid_is, barred_is, hides_none, unbarred}
+use Rattle.part.proofs.Standings.{hid_is, barred_is, hides_none}
 use Rattle.driver.specs.declared.notes.Notes.{Notes}
 use Rattle.driver.specs.Rig.{Job, Doing, resting, naming, programming, erasing, stopping, failed, other, start, Rig, inside, erasure_in, meaning}
 use Rattle.driver.specs.Cycles.{flipped, Shows}
@@ -112,9 +112,9 @@ nothing_stands (Suspended own) b e = absurd (true≢false e)
 
 pub free_read : (r s : Rig) (n : Notes) (a byte : ℕ) → Tied r n → Shows r a byte s → bars (meaning r) (block (meaning r) a) ≡ false → Free r s a byte
 free_read r s n a byte t x b =
-    let none = unbarred (meaning r) (block (meaning r) a) b in
     let idle : n.standing ≡ Idle = nothing_stands n.standing (block (meaning r) a) (bars_is r n (block (meaning r) a) t ∙ b) in
     let rest : r.doing ≡ resting None start = when_idle (length r.sheet.sizes) r.doing (subst (λ (st : Standing). agrees (length r.sheet.sizes) r.doing st ≡ true) idle t.follows) in
+    let none : stands (meaning r) ≡ false = ap (λ (d : Doing). is_some (erasure_in d)) rest in
     record {
       rests = rest;
       same = still_read r s a byte (resting None start) rest refl x;

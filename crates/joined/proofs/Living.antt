@@ -1,7 +1,7 @@
 -- What is done to one of two parts end to end is done to the whole.
 use Rattle.std.proofs.Common.{◌≡◌, ℕ, ◌+◌, ◌-◌, ◌%◌, ◌<◌, ◌≤◌, Bool, true, false, eqb, ltb, List, set, Some, None, Option, is_some, sym, refl, ap, ◌∙◌, subst, inl, inr, arith}
 use Rattle.std.proofs.lemmas.List.{set-append_left, set-append_right}
-use Rattle.std.proofs.lemmas.Bool.{lt-ltb, cases_Bool, cond-false, true≢false}
+use Rattle.std.proofs.lemmas.Bool.{lt-ltb, cases_Bool, cond-true, cond-false, true≢false}
 use Rattle.fault.specs.declared.cause.Cause.{Cause}
 use Rattle.fault.specs.Causes.{number_of}
 use Rattle.part.specs.Meaning.{Erasure, Meaning, Lawful, ErasureLawful, size, count, with_cells, with_erasure, ticked}
@@ -27,7 +27,7 @@ pub no_erasure : (e : Option Erasure) → is_some e ≡ false → e ≡ None
 no_erasure None h = refl
 no_erasure (Some e) h = absurd (true≢false h)
 
-idle_still : (e : Option Erasure) → is_some e ≡ false → running e ≡ false
+pub idle_still : (e : Option Erasure) → is_some e ≡ false → running e ≡ false
 idle_still None h = refl
 idle_still (Some e) h = absurd (true≢false h)
 
@@ -46,10 +46,8 @@ run_none m b (Some x) h q =
       | inl r ↦
           let z : ltb 0 x.left ≡ true = lt-ltb 0 x.left (omega (arith, h.1)) in
           let k : x.left - 0 ≡ x.left = omega arith in
-          rw (r, z)
-          (ap (λ (j : ℕ). with_erasure m (Some (record { block = x.block; left = j; running = true }))) k
-          ∙ ap (λ (t : Bool). with_erasure m (Some (record { block = x.block; left = x.left; running = t }))) (sym r)
-          ∙ ap (with_erasure m) (sym q))
+          cond-true x.running _ _ r ∙ cond-true (ltb 0 x.left) _ _ z ∙ ap (λ (j : ℕ). with_erasure m (Some (record x { left = j }))) k
+          ∙ ap (with_erasure m) (sym q)
       | inr r ↦ rw r
     ]
 

@@ -1,15 +1,20 @@
 -- Why two parts end to end refuse a call, by why each of them does.
-use Rattle.std.specs.Prelude.{◌≡◌, ℕ, ◌+◌, ◌-◌, ◌<◌, ◌≤◌, Bool, true, false, cond, not, ◌&&◌, ◌||◌, leb, Some, None, Option, nat_eq, nat_le, is_some, refl}
+use Rattle.std.specs.Prelude.{◌≡◌, ℕ, ◌+◌, ◌-◌, ◌<◌, ◌≤◌, Bool, true, false, cond, not, ◌&&◌, ◌||◌, leb, Some, None, Option, nat_le, is_some, refl}
 use Rattle.std.proofs.Common.{ap, ◌∙◌, arith}
 use Rattle.std.proofs.lemmas.List.{length-append, get_or_append_left, get_or-append_right}
-use Rattle.std.proofs.lemmas.Bool.{lt-leb, ne_eqb, true≢false}
+use Rattle.std.proofs.lemmas.Bool.{lt-leb, ne_eqb, cond_both, true≢false}
 use Rattle.std.proofs.lemmas.Bool.Decides.{nat_tests}
 use Rattle.fault.specs.declared.cause.Cause.{Cause}
 use Rattle.fault.specs.declared.cause.Cause.TheVariants.{ErasureInTheWay}
 use Rattle.geometry.proofs.Placing.{block_within}
-use Rattle.part.specs.Meaning.{Erasure, Meaning, Lawful, ErasureLawful, size, count, cell, block, guarded, worn}
-use Rattle.part.specs.Calls.{stands, hidden_by, hides, barred_by, bars, hidden_beside_by, hides_beside, barred_beside_by, bars_beside, peek_no, burn_no, begin_no}
-use Rattle.joined.specs.Pile.{raised, either, pile}
+use Rattle.part.specs.Meaning.{Erasure, Meaning, Lawful, ErasureLawful, size, count, cell, block, guarded, worn, standing_of}
+use Rattle.part.specs.declared.answers.Standing.{Standing}
+use Rattle.part.specs.declared.answers.Standing.TheVariants.{Idle, Running, Suspended}
+use Rattle.part.specs.InTheWay.{hid, barred, hid_beside, barred_beside}
+use Rattle.part.specs.Calls.{stands, hides, bars, hides_beside, bars_beside, peek_no, burn_no, begin_no}
+use Rattle.part.specs.Standings.{stood}
+use Rattle.part.proofs.Standings.{stood_is}
+use Rattle.joined.specs.Pile.{raised, either, pile, either_stands}
 use Rattle.joined.proofs.Rows.{block_left, block_right}
 
 -- not both sides have an erasure
@@ -21,50 +26,91 @@ stands_either k None None = refl
 stands_either k None (Some e) = refl
 stands_either k (Some d) e = refl
 
-hidden_left : (k b : ℕ) (d e : Option Erasure) → (is_some d && is_some e) ≡ false → b < k
-    → hidden_by (either d (raised k e)) b ≡ (hidden_beside_by e || hidden_by d b)
-hidden_left k b None None o h = refl
-hidden_left k b None (Some e) o h = let n : nat_eq (k + e.block) b ≡ false = ne_eqb _ b (λ q. omega arith) in rw n
-hidden_left k b (Some d) None o h = refl
-hidden_left k b (Some d) (Some e) o h = absurd (true≢false o)
+-- What of the two stands, at a glance.
+standing_both : (k : ℕ) (d e : Option Erasure) → standing_of (either d (raised k e)) ≡ either_stands (standing_of d) (standing_of e) k
+standing_both k None None = refl
+standing_both k None (Some e) = by_running e.running
+  where
+    by_running : (r : Bool) → cond r (Running (k + e.block)) (Suspended (k + e.block)) ≡ either_stands Idle (cond r (Running e.block) (Suspended e.block)) k
+    by_running true = refl
+    by_running false = refl
+standing_both k (Some d) e = by_running d.running
+  where
+    by_running : (r : Bool) → cond r (Running d.block) (Suspended d.block) ≡ either_stands (cond r (Running d.block) (Suspended d.block)) (standing_of e) k
+    by_running true = refl
+    by_running false = refl
 
-hidden_right : (k b : ℕ) (d e : Option Erasure) → (is_some d && is_some e) ≡ false → ErasureLawful k d
-    → hidden_by (either d (raised k e)) (k + b) ≡ (hidden_beside_by d || hidden_by e b)
-hidden_right k b None None o h = refl
-hidden_right k b None (Some e) o h = let n : nat_eq (k + e.block) (k + b) ≡ nat_eq e.block b = grind (arith, nat_tests) in rw n
-hidden_right k b (Some d) None o h = let n : nat_eq d.block (k + b) ≡ false = ne_eqb _ (k + b) (λ q. omega (arith, h.0)) in rw n
-hidden_right k b (Some d) (Some e) o h = absurd (true≢false o)
+idle : (t : Standing) → stood t ≡ false → t ≡ Idle
+idle Idle o = refl
+idle (Running own) o = absurd (true≢false o)
+idle (Suspended own) o = absurd (true≢false o)
 
-barred_left : (k b : ℕ) (d e : Option Erasure) → (is_some d && is_some e) ≡ false → barred_by (either d (raised k e)) b ≡ (barred_beside_by e || barred_by d b)
-barred_left k b None None o = refl
-barred_left k b None (Some e) o = refl
-barred_left k b (Some d) None o = refl
-barred_left k b (Some d) (Some e) o = absurd (true≢false o)
+-- an erasure, if one stands, is of one of the first k blocks
+abbrev Inside : ℕ → Standing → Type 0
+Inside k Idle = Unit {0}
+Inside k (Running own) = own < k
+Inside k (Suspended own) = own < k
 
-barred_right : (k b : ℕ) (d e : Option Erasure) → (is_some d && is_some e) ≡ false
-    → barred_by (either d (raised k e)) (k + b) ≡ (barred_beside_by d || barred_by e b)
-barred_right k b None None o = refl
-barred_right k b None (Some e) o = refl
-barred_right k b (Some d) None o = refl
-barred_right k b (Some d) (Some e) o = absurd (true≢false o)
+inside_by : (k : ℕ) (e : Option Erasure) → ErasureLawful k e → Inside k (standing_of e)
+inside_by k None h = tt
+inside_by k (Some e) h = cond_both e.running (Running e.block) (Suspended e.block) (Inside k) (λ _. h.0) (λ _. h.0)
 
--- What is hidden and barred in two parts end to end, by what is in each of them: the one place that goes by the text of `hides` and `bars`. An
--- erasure of the other side hides a block only while it runs, and bars it whether it runs or not.
-pub hides_left : (m n : Meaning) (b : ℕ) → One m n → b < count m → hides (pile m n) b ≡ (hides_beside n || hides m b)
-unfolding hides
-hides_left m n b o h = hidden_left (count m) b m.erasure n.erasure o h
+-- What that hides and bars of k blocks and those behind them, by what each side hides and bars: the one place that goes by the rules of what is in
+-- the way. An erasure of the other side hides a block only while it runs, and bars it whether it runs or not.
+module _ (k b : ℕ) where
+  hid_left : (s t : Standing) → (stood s && stood t) ≡ false → b < k → hid (either_stands s t k) b ≡ (hid_beside t || hid s b)
+  hid_left Idle Idle o h = refl
+  hid_left Idle (Running own) o h = refl
+  hid_left Idle (Suspended own) o h = ne_eqb (k + own) b (λ q. omega arith)
+  hid_left (Running own) t o h = rw (idle t o)
+  hid_left (Suspended own) t o h = rw (idle t o)
 
-pub hides_right : (m n : Meaning) (b : ℕ) → Lawful m → One m n → hides (pile m n) (count m + b) ≡ (hides_beside m || hides n b)
-unfolding hides
-hides_right m n b lm o = hidden_right (count m) b m.erasure n.erasure o lm.erasure
+  barred_left : (s t : Standing) → (stood s && stood t) ≡ false → barred (either_stands s t k) b ≡ (barred_beside t || barred s b)
+  barred_left Idle Idle o = refl
+  barred_left Idle (Running own) o = refl
+  barred_left Idle (Suspended own) o = refl
+  barred_left (Running own) t o = rw (idle t o)
+  barred_left (Suspended own) t o = rw (idle t o)
 
-pub bars_left : (m n : Meaning) (b : ℕ) → One m n → b < count m → bars (pile m n) b ≡ (bars_beside n || bars m b)
-unfolding bars
-bars_left m n b o h = barred_left (count m) b m.erasure n.erasure o
+  hid_right : (s t : Standing) → (stood s && stood t) ≡ false → Inside k s → hid (either_stands s t k) (k + b) ≡ (hid_beside s || hid t b)
+  hid_right Idle Idle o h = refl
+  hid_right Idle (Running own) o h = refl
+  hid_right Idle (Suspended own) o h = grind (arith, nat_tests)
+  hid_right (Running own) t o h = refl
+  hid_right (Suspended own) t o h = rw (idle t o) (ne_eqb own (k + b) (λ q. omega (arith, h)))
 
-pub bars_right : (m n : Meaning) (b : ℕ) → Lawful m → One m n → bars (pile m n) (count m + b) ≡ (bars_beside m || bars n b)
-unfolding bars
-bars_right m n b lm o = barred_right (count m) b m.erasure n.erasure o
+  barred_right : (s t : Standing) → (stood s && stood t) ≡ false → barred (either_stands s t k) (k + b) ≡ (barred_beside s || barred t b)
+  barred_right Idle Idle o = refl
+  barred_right Idle (Running own) o = refl
+  barred_right Idle (Suspended own) o = refl
+  barred_right (Running own) t o = refl
+  barred_right (Suspended own) t o = refl
+
+module _ (m n : Meaning) (o : One m n) where
+  standing_pile : standing_of (pile m n).erasure ≡ either_stands (standing_of m.erasure) (standing_of n.erasure) (count m)
+  standing_pile = standing_both (count m) m.erasure n.erasure
+
+  not_both : (stood (standing_of m.erasure) && stood (standing_of n.erasure)) ≡ false
+  not_both = rw (stood_is m, stood_is n) o
+
+  pub hides_left : (b : ℕ) → b < count m → hides (pile m n) b ≡ (hides_beside n || hides m b)
+  unfolding hides
+  hides_left b h = ap (λ (s : Standing). hid s b) standing_pile ∙ hid_left (count m) b (standing_of m.erasure) (standing_of n.erasure) not_both h
+
+  pub hides_right : Lawful m → (b : ℕ) → hides (pile m n) (count m + b) ≡ (hides_beside m || hides n b)
+  unfolding hides
+  hides_right lm b =
+      ap (λ (s : Standing). hid s (count m + b)) standing_pile
+      ∙ hid_right (count m) b (standing_of m.erasure) (standing_of n.erasure) not_both (inside_by (count m) m.erasure lm.erasure)
+
+  pub bars_left : (b : ℕ) → bars (pile m n) b ≡ (bars_beside n || bars m b)
+  unfolding bars
+  bars_left b = ap (λ (s : Standing). barred s b) standing_pile ∙ barred_left (count m) b (standing_of m.erasure) (standing_of n.erasure) not_both
+
+  pub bars_right : (b : ℕ) → bars (pile m n) (count m + b) ≡ (bars_beside m || bars n b)
+  unfolding bars
+  bars_right b =
+      ap (λ (s : Standing). barred s (count m + b)) standing_pile ∙ barred_right (count m) b (standing_of m.erasure) (standing_of n.erasure) not_both
 
 -- A refusal in the way, before and after another check.
 or_cond : (x y : Bool) (s t : Option Cause) → cond (x || y) s t ≡ cond x s (cond y s t)
@@ -127,13 +173,13 @@ module _ (m n : Meaning) (lm : Lawful m) (o : One m n) where
     pub peek_left : peek_no (pile m n) a ≡ cond (hides_beside n) (Some ErasureInTheWay) (peek_no m a)
     peek_left =
         let s : hides (pile m n) (block (pile m n) a) ≡ (hides_beside n || hides m (block m a)) =
-        ap (hides (pile m n)) of_left ∙ hides_left m n (block m a) o within in
+        ap (hides (pile m n)) of_left ∙ hides_left m n o (block m a) within in
         rw (inside, in_first, s) (or_cond (hides_beside n) (hides m (block m a)) _ _)
 
     pub burn_left : (byte : ℕ) → burn_no (pile m n) a byte ≡ cond (bars_beside n) (Some ErasureInTheWay) (burn_no m a byte)
     burn_left byte =
         let s : bars (pile m n) (block (pile m n) a) ≡ (bars_beside n || bars m (block m a)) =
-        ap (bars (pile m n)) of_left ∙ bars_left m n (block m a) o within in
+        ap (bars (pile m n)) of_left ∙ bars_left m n o (block m a) in
         let g : guarded (pile m n) (block (pile m n) a) ≡ guarded m (block m a) = ap (guarded (pile m n)) of_left ∙ guarded_left (block m a) within in
         let w : worn (pile m n) (block (pile m n) a) ≡ worn m (block m a) = ap (worn (pile m n)) of_left ∙ worn_left (block m a) within in
         rw (inside, in_first, s, g, cell_left a h, w) (or_cond (bars_beside n) (bars m (block m a)) _ _)
@@ -152,7 +198,7 @@ module _ (m n : Meaning) (lm : Lawful m) (o : One m n) where
     peek_right =
         let b = block n (a - size m) in
         let s : hides (pile m n) (block (pile m n) a) ≡ (hides_beside m || hides n b) =
-        ap (hides (pile m n)) of_right ∙ hides_right m n b lm o in
+        ap (hides (pile m n)) of_right ∙ hides_right m n o lm b in
         rw (outer, s) (later_or (nat_le (size n) (a - size m)) (hides_beside m) (hides n b) _ _ _)
 
     pub burn_right : (byte : ℕ) → burn_no (pile m n) a byte
@@ -160,7 +206,7 @@ module _ (m n : Meaning) (lm : Lawful m) (o : One m n) where
     burn_right byte =
         let b = block n (a - size m) in
         let s : bars (pile m n) (block (pile m n) a) ≡ (bars_beside m || bars n b) =
-        ap (bars (pile m n)) of_right ∙ bars_right m n b lm o in
+        ap (bars (pile m n)) of_right ∙ bars_right m n o b in
         let g : guarded (pile m n) (block (pile m n) a) ≡ guarded n b =
         ap (guarded (pile m n)) of_right ∙ guarded_right (count m + b) (omega arith) ∙ ap (guarded n) (omega arith) in
         let w : worn (pile m n) (block (pile m n) a) ≡ worn n b = ap (worn (pile m n)) of_right ∙ worn_right b in

@@ -19,7 +19,7 @@ size_run m k (Some e) = by e.running (ltb k e.left)
     wipe false = length_wiped m.sizes e.block 0xFF m.cells
 
     by : (r s : Bool) → size (cond r
-        (cond s (with_erasure m (Some (record { block = e.block; left = e.left - k; running = true })))
+        (cond s (with_erasure m (Some (record e { left = e.left - k })))
         (with_erasure (with_cells m (erased m e.block)) None))
         m) ≡ size m
     by true true = refl
@@ -31,7 +31,7 @@ count_run m k None = refl
 count_run m k (Some e) = by e.running (ltb k e.left)
   where
     by : (r s : Bool) → count (cond r
-        (cond s (with_erasure m (Some (record { block = e.block; left = e.left - k; running = true })))
+        (cond s (with_erasure m (Some (record e { left = e.left - k })))
         (with_erasure (with_cells m (erased m e.block)) None))
         m) ≡ count m
     by true true = refl
@@ -44,7 +44,7 @@ run_clock m k None = refl
 run_clock m k (Some e) = by e.running (ltb k e.left)
   where
     by : (r s : Bool) → (cond r
-        (cond s (with_erasure m (Some (record { block = e.block; left = e.left - k; running = true })))
+        (cond s (with_erasure m (Some (record e { left = e.left - k })))
         (with_erasure (with_cells m (erased m e.block)) None))
         m).clock ≡ m.clock
     by true true = refl
@@ -73,9 +73,9 @@ module _ (m n : Meaning) (lm : Lawful m) (o : One m n) (k : ℕ) where
   run_left (Some x) h q = by x.running (ltb k x.left)
     where
       by : (r s : Bool) → pile
-          (cond r (cond s (with_erasure m (Some (record { block = x.block; left = x.left - k; running = true })))
+          (cond r (cond s (with_erasure m (Some (record x { left = x.left - k })))
           (with_erasure (with_cells m (erased m x.block)) None)) m) n
-          ≡ cond r (cond s (with_erasure (pile m n) (Some (record { block = x.block; left = x.left - k; running = true })))
+          ≡ cond r (cond s (with_erasure (pile m n) (Some (record x { left = x.left - k })))
           (with_erasure (with_cells (pile m n) (erased (pile m n) x.block)) None)) (pile m n)
       by true true = refl
       by true false = ended_left x.block h.0 q
@@ -98,12 +98,12 @@ module _ (m n : Meaning) (lm : Lawful m) (o : One m n) (k : ℕ) where
   run_right (Some x) q = by x.running (ltb k x.left)
     where
       by : (r s : Bool) → pile m
-          (cond r (cond s (with_erasure n (Some (record { block = x.block; left = x.left - k; running = true })))
+          (cond r (cond s (with_erasure n (Some (record x { left = x.left - k })))
           (with_erasure (with_cells n (erased n x.block)) None)) n)
-          ≡ cond r (cond s (with_erasure (pile m n) (Some (record { block = count m + x.block; left = x.left - k; running = true })))
+          ≡ cond r (cond s (with_erasure (pile m n) (Some (record x { block = count m + x.block; left = x.left - k })))
           (with_erasure (with_cells (pile m n) (erased (pile m n) (count m + x.block))) None)) (pile m n)
       by true true =
-          ap (λ (d : Option Erasure). with_erasure (pile m n) (either d (Some (record { block = count m + x.block; left = x.left - k; running = true })))) q
+          ap (λ (d : Option Erasure). with_erasure (pile m n) (either d (Some (record x { block = count m + x.block; left = x.left - k })))) q
       by true false = ended_right x.block q
       by false s = refl
 

@@ -14,7 +14,7 @@ use Rattle.joined.specs.Pile.{pile, no_part, fits}
 use Rattle.joined.specs.Sides.{Sides, whole_of, Way, to_first, to_second, aimed, peek_aim, burn_aim, begin_aim, sent, turn_way, way, Went, Called}
 use Rattle.joined.proofs.Refusing.{One, peek_left, peek_right, burn_left, burn_right, begin_left, begin_right}
 use Rattle.part.proofs.Standings.{unbarred_beside}
-use Rattle.joined.proofs.Living.{no_time, same_second, burnt_first, burnt_second, begun_clock, begun_first, begun_second, held_first, held_second, gone_first, gone_second}
+use Rattle.joined.proofs.Living.{idle_still, no_time, same_second, burnt_first, burnt_second, begun_clock, begun_first, begun_second, held_first, held_second, gone_first, gone_second}
 use Rattle.joined.proofs.Running.{run_clock, pass_both}
 use Rattle.joined.proofs.Fitting.{one, fits_same, fits_passed, fits_burnt_first, fits_burnt_second, fits_begun_first, fits_begun_second, fits_held_first, fits_held_second, fits_gone_first, fits_gone_second}
 
@@ -156,7 +156,7 @@ module _ (m n : Meaning) (lm : Lawful m) (ln : Lawful n) (f : fits m n ≡ true)
 
   -- A hold, and a going on.
   second_still : stands m ≡ true → runs n ≡ false
-  second_still s = unbarred_beside n (ap (λ (x : Bool). x && stands n) (sym s) ∙ lone)
+  second_still s = idle_still n.erasure (ap (λ (x : Bool). x && stands n) (sym s) ∙ lone)
 
   hold_sent : (m' n' : Meaning) → Went (turn_way m hold) m n m' n' → Held (pile m n) (pile m' n') × (fits m' n' ≡ true)
   hold_sent m' n' =

@@ -139,9 +139,8 @@ impl<P: Part, Q: Part> Part for Joined<P, Q> {
         ensures sides { Called (⟦<Self as TwoSided>⟧.sides self.old) (pass n) (⟦<Self as TwoSided>⟧.sides self.new) }
     {
         let asked = self.shapes();
-        let before = self.first.pass(n);
-        let behind = self.second.pass(n);
-        let (before, behind) = (before?, behind?);
+        let before = self.first.pass(n)?;
+        let behind = self.second.pass(n)?;
         Ok(match asked {
             None => Progress::Idle,
             Some((first, _)) if first.standing.stands() => before,

@@ -1,11 +1,11 @@
 -- One pass after another is one pass of both times.
-use Rattle.std.proofs.Common.{◌≡◌, ℕ, ◌+◌, ◌-◌, ◌<◌, ◌≤◌, Bool, true, false, cond, ltb, leb, Some, None, Ok, Option, Result, sym, refl, ap, ◌∙◌, subst, inl, inr, arith}
+use Rattle.std.proofs.Common.{◌≡◌, ℕ, ◌+◌, ◌-◌, ◌<◌, ◌≤◌, Bool, true, false, cond, ltb, leb, Some, None, Ok, Option, Result, sym, refl, ap, ◌∙◌, inl, inr, arith}
 use Rattle.std.proofs.lemmas.Bool.{lt-ltb, le-ltb, le-leb, cases_lt, cases_Bool, cond-true, cond-false}
 use Rattle.std.proofs.lemmas.Bool.Decides.{nat_tests}
 use Rattle.fault.specs.declared.cause.Cause.TheVariants.{TimeTooLong}
 use Rattle.fault.specs.declared.faults.PartFault.{PartFault}
 use Rattle.part.specs.declared.answers.Progress.{Progress}
-use Rattle.part.specs.declared.answers.Progress.TheVariants.{Idle, Running, Suspended, Finished, Worn}
+use Rattle.part.specs.declared.answers.Progress.TheVariants.{Running, Suspended, Finished, Worn}
 use Rattle.part.specs.Meaning.{Erasure, Meaning, worn, with_erasure, ticked}
 use Rattle.part.specs.Calls.{longest, time_no, answer, run_on, passed, progress, after_pass}
 use Rattle.part.specs.Neighbours.{found_then}
@@ -25,13 +25,13 @@ progress_by m a b (Some e) d =
           ∙ ap (λ (x : Meaning). progress x b x.erasure) same ∙ ap (progress m b) d ∙ still b)
       | inl r ↦ elim (cases_lt a e.left) [
         | inl l ↦
-            let x : Erasure = record { block = e.block; left = e.left - a; running = true } in
+            let x : Erasure = record e { left = e.left - a } in
             let on : run_on m a (Some e) ≡ with_erasure m (Some x) = cond-true e.running _ _ r ∙ cond-true (ltb a e.left) _ _ (lt-ltb a e.left l) in
             let t : ltb (a + b) e.left ≡ ltb b (e.left - a) = grind (arith, nat_tests) in
             cond-true e.running _ _ r
             ∙ ap (λ (u : Bool). cond u Running (cond (worn m e.block) Worn Finished)) t
             ∙ sym (ap (λ (y : Progress). found_then y (progress (run_on m a (Some e)) b (run_on m a (Some e)).erasure)) (goes_on l r)
-            ∙ ap (λ (y : Meaning). progress y b y.erasure) on)
+            ∙ ap (λ (y : Meaning). progress y b y.erasure) on ∙ cond-true e.running _ _ r)
         | inr l ↦
             let ends : (n : ℕ) → e.left ≤ n → progress m n (Some e) ≡ cond (worn m e.block) Worn Finished =
             λ n h. cond-true e.running _ _ r ∙ cond-false (ltb n e.left) _ _ (le-ltb n e.left h) in

@@ -10,11 +10,11 @@ use Rattle.part.specs.declared.answers.Progress.TheVariants.{Running}
 use Rattle.part.specs.declared.answers.Turn.{Turn}
 use Rattle.part.specs.declared.answers.Turn.TheVariants.{Done, Nothing}
 use Rattle.part.specs.Meaning.{Erasure, Meaning, size, count, cell, block, guarded, worn, with_cells, with_erasure, ticked, ErasureLawful, Lawful}
-use Rattle.part.specs.Calls.{longest, stands, burn_no, begin_no, Took, Refused, BurntBy, Burnt, BegunBy, turned, can_hold, HeldBy, Held, gone_on, erased, run_on, passed, progress, after_pass}
+use Rattle.part.specs.Calls.{longest, longest_burn, longest_hold, stands, bars, burn_no, begin_no, Took, Refused, BurntBy, Burnt, BegunBy, turned, can_hold, HeldBy, Held, gone_on, erased, run_on, passed, progress, after_pass}
 use Rattle.part.specs.Laws.{Call, look, burn, begin, hold, go_on, pass, Made, Run, none, more, spares, AllSpare, SameBlocks, PartLaws}
 use Rattle.part.proofs.Clocks.{ticked_more}
 use Rattle.part.proofs.Granting.{burnable, erasable}
-use Rattle.part.proofs.Standings.{unbarred}
+use Rattle.part.proofs.Standings.{bars_own}
 
 same_blocks : (m n : Meaning) → n ≡ m → SameBlocks m n
 same_blocks m n e = record {
@@ -66,12 +66,12 @@ module _ (m : Meaning) (a : ℕ)
   itself = record { blocks = same_blocks m m refl; same = refl }
 
   refused_kept : (t : Bool) (n : Meaning) → Refused t m n → Kept m n a
-  refused_kept true n r = took_kept 0 300 m n r itself
+  refused_kept true n r = took_kept 0 longest_burn m n r itself
   refused_kept false n r = subst (λ (y : Meaning). Kept m y a) (sym r) itself
 
   burnt_kept : (o : Option Cause) (x byte : ℕ) (n : Meaning) → (o ≡ None → x ≡ a → ⊥) → BurntBy m x byte o n → Kept m n a
   burnt_kept None x byte n s t =
-      took_kept 1 300 (with_cells m (set m.cells x byte)) n t
+      took_kept 1 longest_burn (with_cells m (set m.cells x byte)) n t
       (record {
         blocks = record { sizes = refl; guards = refl; wears = refl; size = length-set m.cells x byte };
         same = get_or-set_other m.cells x a byte 0 (λ e. s refl (sym e));
@@ -83,7 +83,7 @@ module _ (m : Meaning) (a : ℕ)
   begun_kept (Some c) b n t = subst (λ (y : Meaning). Kept m y a) (sym t) itself
 
   held_kept : (t : Turn) (n : Meaning) → HeldBy m t n → Kept m n a
-  held_kept Done n t = took_kept 0 15 (with_erasure m (turned false m.erasure)) n t (record { blocks = record { sizes = refl; guards = refl; wears = refl; size = refl }; same = refl })
+  held_kept Done n t = took_kept 0 longest_hold (with_erasure m (turned false m.erasure)) n t (record { blocks = record { sizes = refl; guards = refl; wears = refl; size = refl }; same = refl })
   held_kept Nothing n t = subst (λ (y : Meaning). Kept m y a) (sym t) itself
 
   passed_kept : (n : ℕ) → Kept m (after_pass m n) a
@@ -123,11 +123,11 @@ module _ (m : Meaning) (P : ℕ → Type 0) (p : On P m.erasure) where
   took_on least most x n t q = subst (λ (y : Meaning). On P y.erasure) (sym t.is) q
 
   refused_on : (t : Bool) (n : Meaning) → Refused t m n → On P n.erasure
-  refused_on true n r = took_on 0 300 m n r p
+  refused_on true n r = took_on 0 longest_burn m n r p
   refused_on false n r = subst (λ (y : Meaning). On P y.erasure) (sym r) p
 
   burnt_on : (o : Option Cause) (x byte : ℕ) (n : Meaning) → BurntBy m x byte o n → On P n.erasure
-  burnt_on None x byte n t = took_on 1 300 (with_cells m (set m.cells x byte)) n t p
+  burnt_on None x byte n t = took_on 1 longest_burn (with_cells m (set m.cells x byte)) n t p
   burnt_on (Some c) x byte n t = refused_on (eqb (number_of c) 8) n t
 
   begun_on : (o : Option Cause) (b : ℕ) (n : Meaning) → (o ≡ None → P b) → BegunBy m b o n → On P n.erasure
@@ -135,7 +135,7 @@ module _ (m : Meaning) (P : ℕ → Type 0) (p : On P m.erasure) where
   begun_on (Some c) b n s t = subst (λ (y : Meaning). On P y.erasure) (sym t) p
 
   held_on : (t : Turn) (n : Meaning) → HeldBy m t n → On P n.erasure
-  held_on Done n t = took_on 0 15 (with_erasure m (turned false m.erasure)) n t (turned_on P false m.erasure p)
+  held_on Done n t = took_on 0 longest_hold (with_erasure m (turned false m.erasure)) n t (turned_on P false m.erasure p)
   held_on Nothing n t = subst (λ (y : Meaning). On P y.erasure) (sym t) p
 
   call_on : (c : Call) (n : Meaning) → ((b : ℕ) → c ≡ begin b → begin_no m b ≡ None → P b) → Made m c n → On P n.erasure
@@ -196,7 +196,7 @@ lasts : (m k n : Meaning) (a byte : ℕ) (cs : List Call) → Lawful m → burn_
     → Run k cs n → AllSpare a (block m a) cs → cell n a ≡ byte
 lasts m k n a byte cs w free t r f =
     let g = burnable m a byte free in
-    let took : Took 1 300 (with_cells m (set m.cells a byte)) k = subst (λ (o : Option Cause). BurntBy m a byte o k) free t in
+    let took : Took 1 longest_burn (with_cells m (set m.cells a byte)) k = subst (λ (o : Option Cause). BurntBy m a byte o k) free t in
     let x : Meaning = with_cells m (set m.cells a byte) in
     let sizes : k.sizes ≡ m.sizes = ap (λ (y : Meaning). y.sizes) took.is in
     let long : size k ≡ size m = ap (λ (y : Meaning). size y) took.is ∙ length-set m.cells a byte in
@@ -207,8 +207,13 @@ lasts m k n a byte cs w free t r f =
     (λ j l y z q d. q)
     (λ j l b q d. (omega (arith, (erasable j b d).within, ap length (l.sizes ∙ sizes)), q))
     k n cs r f (same_blocks k k refl)
-    (subst (On P) (sym (ap (λ (y : Meaning). y.erasure) took.is)) (nothing_stands m.erasure P (unbarred m (block m a) g.free))) byte
+    (subst (On P) (sym (ap (λ (y : Meaning). y.erasure) took.is)) (first m.erasure refl w.erasure)) byte
     (ap (λ (y : Meaning). cell y a) took.is ∙ get_or-set_same m.cells a byte 0 g.within)
+  where
+    -- the erasure that stands, if any, is of another block, since it would bar its own
+    first : (o : Option Erasure) → m.erasure ≡ o → ErasureLawful (count m) o → On (λ b. (b < count m) × (b ≡ block m a → ⊥)) o
+    first None d l = tt
+    first (Some e) d l = ((l.0, λ q. both_ways _ (ap (bars m) q ∙ (burnable m a byte free).free) (bars_own m e d)), l.1)
 
 all_fine : (cs : List Call) → All (λ _. Unit {0}) cs
 all_fine [] = tt
@@ -253,13 +258,13 @@ there_and_back : (o : Option Erasure) → can_hold o ≡ Done → turned true (t
 there_and_back None e = refl
 there_and_back (Some x) e = by x.running refl e
   where
-    by : (t : Bool) → x.running ≡ t → cond t Done Nothing ≡ Done → Some (record { block = x.block; left = x.left; running = true }) ≡ Some x
-    by true d e = ap (λ (t : Bool). Some (record { block = x.block; left = x.left; running = t })) (sym d)
+    by : (t : Bool) → x.running ≡ t → cond t Done Nothing ≡ Done → Some (record x { running = true }) ≡ Some x
+    by true d e = ap (λ (t : Bool). Some (record x { running = t })) (sym d)
     by false d e = let z : ◌≡◌ {A = ℕ} 0 1 = cc in absurd (omega arith)
 
-held_and_gone : (m n : Meaning) → can_hold m.erasure ≡ Done → Held m n → (t : ℕ) × (t ≤ 15) × (gone_on n ≡ ticked m t)
+held_and_gone : (m n : Meaning) → can_hold m.erasure ≡ Done → Held m n → (t : ℕ) × (t ≤ longest_hold) × (gone_on n ≡ ticked m t)
 held_and_gone m n e h =
-    let took : Took 0 15 (with_erasure m (turned false m.erasure)) n = subst (λ (t : Turn). HeldBy m t n) e h in (
+    let took : Took 0 longest_hold (with_erasure m (turned false m.erasure)) n = subst (λ (t : Turn). HeldBy m t n) e h in (
       took.time,
       took.high,
       ap gone_on took.is ∙ ap (λ (o : Option Erasure). ticked (with_erasure m o) took.time) (there_and_back m.erasure e),
@@ -270,8 +275,8 @@ run_ticked : (x : Meaning) (a n : ℕ) (o : Option Erasure) → run_on (ticked x
 run_ticked x a n None = refl
 run_ticked x a n (Some e) = by e.running (ltb n e.left)
   where
-    by : (r l : Bool) → cond r (cond l (with_erasure (ticked x a) (Some (record { block = e.block; left = e.left - n; running = true }))) (with_erasure (with_cells (ticked x a) (erased x e.block)) None)) (ticked x a)
-        ≡ ticked (cond r (cond l (with_erasure x (Some (record { block = e.block; left = e.left - n; running = true }))) (with_erasure (with_cells x (erased x e.block)) None)) x) a
+    by : (r l : Bool) → cond r (cond l (with_erasure (ticked x a) (Some (record e { left = e.left - n }))) (with_erasure (with_cells (ticked x a) (erased x e.block)) None)) (ticked x a)
+        ≡ ticked (cond r (cond l (with_erasure x (Some (record e { left = e.left - n }))) (with_erasure (with_cells x (erased x e.block)) None)) x) a
     by true true = refl
     by true false = refl
     by false l = refl
@@ -286,7 +291,7 @@ run_twice m a b (Some e) d =
           ap (λ (x : Meaning). run_on x b x.erasure) (still a) ∙ ap (run_on m b) d ∙ still b ∙ sym (still (a + b))
       | inl r ↦ elim (cases_lt a e.left) [
         | inl l ↦
-            let x : Erasure = record { block = e.block; left = e.left - a; running = true } in
+            let x : Erasure = record e { left = e.left - a } in
             let first : run_on m a (Some e) ≡ with_erasure m (Some x) = cond-true e.running _ _ r ∙ cond-true (ltb a e.left) _ _ (lt-ltb a e.left l) in
             ap (λ (y : Meaning). run_on y b y.erasure) first ∙ second l x refl r
         | inr l ↦
@@ -297,18 +302,18 @@ run_twice m a b (Some e) d =
       ]
     ]
   where
-    second : a < e.left → (x : Erasure) → x ≡ record { block = e.block; left = e.left - a; running = true } → e.running ≡ true
+    second : a < e.left → (x : Erasure) → x ≡ record e { left = e.left - a } → e.running ≡ true
         → run_on (with_erasure m (Some x)) b (Some x) ≡ run_on m (a + b) (Some e)
     second l x i r =
         subst (λ (y : Erasure). run_on (with_erasure m (Some y)) b (Some y) ≡ run_on m (a + b) (Some e)) (sym i)
         (elim (cases_lt b (e.left - a)) [
           | inl k ↦
               let n : e.left - a - b ≡ e.left - (a + b) = omega arith in
-              cond-true (ltb b (e.left - a)) _ _ (lt-ltb b (e.left - a) k)
-              ∙ ap (λ (w : ℕ). with_erasure m (Some (record { block = e.block; left = w; running = true }))) n
+              cond-true e.running _ _ r ∙ cond-true (ltb b (e.left - a)) _ _ (lt-ltb b (e.left - a) k)
+              ∙ ap (λ (w : ℕ). with_erasure m (Some (record e { left = w }))) n
               ∙ sym (cond-true e.running _ _ r ∙ cond-true (ltb (a + b) e.left) _ _ (lt-ltb (a + b) e.left (omega arith)))
           | inr k ↦
-              cond-false (ltb b (e.left - a)) _ _ (le-ltb b (e.left - a) k)
+              cond-true e.running _ _ r ∙ cond-false (ltb b (e.left - a)) _ _ (le-ltb b (e.left - a) k)
               ∙ sym (cond-true e.running _ _ r ∙ cond-false (ltb (a + b) e.left) _ _ (le-ltb (a + b) e.left (omega arith)))
         ])
 

@@ -1,6 +1,6 @@
 -- The calls of a part: for each input the answer or the refusal, and the whole meaning afterwards. What a call does not name
 -- stays. Free are only the microseconds, inside their limits.
-use Rattle.std.specs.Prelude.{◌≡◌, ℕ, ◌-◌, ◌≤◌, Bool, true, false, if◌then◌else◌, ◌||◌, List, Some, None, Ok, Err, Option, Result, ◌==◌, nat_le, nat_lt, slice_index, slice_set, is_some}
+use Rattle.std.specs.Prelude.{◌≡◌, ℕ, ◌-◌, ◌≤◌, Bool, true, false, if◌then◌else◌, List, Some, None, Ok, Err, Option, Result, ◌==◌, nat_le, nat_lt, slice_index, slice_set, is_some}
 use Rattle.fault.specs.declared.cause.Cause.{Cause}
 use Rattle.fault.specs.declared.cause.Cause.TheVariants.{AddressOutside, NoSuchBlock, ErasureInTheWay, Guarded, NeedsErase, Worn}
 use Rattle.fault.specs.Causes.{number_of}
@@ -13,8 +13,8 @@ use Rattle.part.specs.declared.answers.Progress.{Progress}
 use Rattle.part.specs.declared.answers.Progress.TheVariants.{Idle, Running, Suspended, Finished, Worn as Spoilt}
 use Rattle.part.specs.declared.answers.Turn.{Turn}
 use Rattle.part.specs.declared.answers.Turn.TheVariants.{Done, Nothing}
-use Rattle.part.specs.InTheWay.{peek_hidden, burn_barred, peek_hidden_beside, burn_barred_beside}
-use Rattle.part.specs.Meaning.{Erasure, Meaning, size, count, cell, block, guarded, worn, with_cells, with_erasure, ticked}
+use Rattle.part.specs.InTheWay.{hid, barred, hid_beside, barred_beside}
+use Rattle.part.specs.Meaning.{Erasure, Meaning, size, count, cell, block, guarded, worn, with_cells, with_erasure, ticked, standing_of}
 
 -- Refusals. Each call has one function that says why it is refused, or that it is not; the checks run in rising number.
 
@@ -37,36 +37,19 @@ runs m = running m.erasure
 
 -- The questions that an erasure raises about a block. What follows from an answer stands in laws about these names.
 
--- no cell of block b can be peeked now
-abbrev pub hidden_by : Option Erasure → ℕ → Bool
-hidden_by None b = false
-hidden_by (Some e) b = peek_hidden e.running e.block b
-
+-- no cell of block b can be peeked, or burnt, now
 unfoldable pub hides : Meaning → ℕ → Bool
-hides m b = hidden_by m.erasure b
-
--- no cell of block b can be burnt now
-abbrev pub barred_by : Option Erasure → ℕ → Bool
-barred_by None b = false
-barred_by (Some e) b = burn_barred e.running e.block b
+hides m b = hid (standing_of m.erasure) b
 
 unfoldable pub bars : Meaning → ℕ → Bool
-bars m b = barred_by m.erasure b
+bars m b = barred (standing_of m.erasure) b
 
 -- no cell of a neighbour can be peeked, or burnt, now
-abbrev pub hidden_beside_by : Option Erasure → Bool
-hidden_beside_by None = false
-hidden_beside_by (Some e) = peek_hidden_beside e.running
-
 abbrev pub hides_beside : Meaning → Bool
-hides_beside m = hidden_beside_by m.erasure
-
-abbrev pub barred_beside_by : Option Erasure → Bool
-barred_beside_by None = false
-barred_beside_by (Some e) = burn_barred_beside e.running
+hides_beside m = hid_beside (standing_of m.erasure)
 
 abbrev pub bars_beside : Meaning → Bool
-bars_beside m = barred_beside_by m.erasure
+bars_beside m = barred_beside (standing_of m.erasure)
 
 abbrev pub outside : Meaning → ℕ → Bool
 outside m a = nat_le (size m) a
@@ -174,7 +157,7 @@ abbrev pub run_on : Meaning → ℕ → Option Erasure → Meaning
 run_on m n None = m
 run_on m n (Some e) =
     if e.running then
-    (if nat_lt n e.left then with_erasure m (Some (record { block = e.block; left = e.left - n; running = true }))
+    (if nat_lt n e.left then with_erasure m (Some (record e { left = e.left - n }))
     else with_erasure (with_cells m (erased m e.block)) None)
     else m
 

@@ -1,6 +1,7 @@
 // What the calls of a part answer.
 ghost use Rattle.std.specs.Prelude.{◌≡◌, Some};
-ghost use Rattle.part.specs.Standings.{stood, ran, hid, barred, hid_beside, barred_beside, burn_why, shape_begin_no};
+ghost use Rattle.part.specs.InTheWay.{hid, barred, hid_beside, barred_beside};
+ghost use Rattle.part.specs.Standings.{stood, ran, burn_why, shape_begin_no};
 ghost use Rattle.part.specs.Words.{progress_text};
 
 use fault::{Cause, needs_erase};

@@ -1,6 +1,6 @@
 -- Why a pile is not made.
 use Rattle.std.specs.Prelude.{◌≡◌, ℕ, true, cond, not, List, [], ◌∷◌, length, Some, None, Ok, Err, Option, Result, nat_le, position}
-use Rattle.fault.specs.declared.cause.Cause.TheVariants.{UnfitMaking}
+use Rattle.array.specs.Limits.{unfit}
 use Rattle.pile.specs.declared.kind.Kind.{Kind}
 use Rattle.pile.specs.declared.unmade.Unmade.{Unmade}
 use Rattle.pile.specs.declared.unmade.Unmade.TheVariants.{TooMany, Refused, Memory}
@@ -9,7 +9,7 @@ use Rattle.pile.specs.Pieces.{fits}
 -- the piece of that number is refused, if any is
 abbrev pub refused : Option ℕ → Option Unmade
 refused None = None
-refused (Some n) = Some (Refused n (record { cause = UnfitMaking; place = 0 }))
+refused (Some n) = Some (Refused n unfit)
 
 -- What stands against a pile of these pieces, memory aside: that there are more than four, or else the first piece whose numbers do not fit.
 abbrev pub objection : Kind → List Kind → Option Unmade

@@ -34,14 +34,16 @@ impl Kind {
         ensures { IfOk result (λ piece. ⟦<Piece as Part>⟧.means piece ≡ piece_of self.now) }
     {
         match self {
-            Kind::Chip(setup) => {
-                let memory = vec![in heap; 0xFFu8; setup.size()]?;
-                Ok(OneOf::Left(driven(Chip::on(*setup, memory).unwrap())))
-            }
-            Kind::Array(layout) => {
-                let memory = vec![in heap; 0xFFu8; layout.bytes()]?;
-                Ok(OneOf::Right(Array::on(*layout, memory).unwrap()))
-            }
+            Kind::Chip(setup) => match Chip::blank(heap, *setup) {
+                Ok(chip) => Ok(OneOf::Left(driven(chip))),
+                Err(chip::Unmade::Memory) => Err(AllocError),
+                Err(chip::Unmade::Refused(_)) => unreachable!(),
+            },
+            Kind::Array(layout) => match Array::blank(heap, *layout) {
+                Ok(array) => Ok(OneOf::Right(array)),
+                Err(array::Unmade::Memory) => Err(AllocError),
+                Err(array::Unmade::Refused(_)) => unreachable!(),
+            },
         }
     }
 }

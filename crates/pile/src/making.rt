@@ -8,7 +8,7 @@ use crate::kind::Kind;
 use crate::one_of::OneOf;
 use crate::pile::{Piece, Pile};
 use crate::unmade::Unmade;
-use fault::{Cause, PartFault};
+use array::UNFIT;
 use joined::Joined;
 use part::Part;
 use std::alloc::{AllocError, Global};
@@ -47,10 +47,7 @@ fn check(first: &Kind, more: &[Kind]) -> Result<(), Unmade>
         None => Ok(()),
         Some(piece) => Err(Unmade::Refused {
             piece,
-            fault: PartFault {
-                cause: Cause::UnfitMaking,
-                place: 0,
-            },
+            fault: UNFIT,
         }),
     }
 }

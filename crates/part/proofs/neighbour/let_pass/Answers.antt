@@ -1,5 +1,5 @@
-use Rattle.std.proofs.Common.{◌≡◌, ◌-◌, ◌≤◌, sym, ◌∙◌, arith}
-use Rattle.part.proofs.Elapsing.{Sofar, one_more}
+use Rattle.std.proofs.Common.{◌-◌, ◌≤◌, ◌∙◌, arith}
+use Rattle.part.proofs.Elapsing.{one_more}
 use Rattle.part.proofs.neighbour.let_pass.Goals as goal
 
 pub loop-rest-preserved : goal.loop-rest-preserved
