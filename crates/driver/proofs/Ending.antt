@@ -18,8 +18,8 @@ use Rattle.driver.specs.Sound.{Sound}
 use Rattle.driver.specs.Notes.{agrees, Tied}
 use Rattle.driver.specs.Calls.{Waits}
 use Rattle.driver.specs.Steps.{progress_of, stands_after, Looks}
-use Rattle.driver.specs.ProofOfLawful.{when_running}
-use Rattle.driver.proofs.Changing.{is_erases, same_later, same_cycle, same_more}
+use Rattle.driver.proofs.Changing.{same_later, same_cycle, same_more}
+use Rattle.driver.proofs.Tying.{is_erases, when_running}
 
 -- What the look at the end of a pass of n microseconds says: the answer, the meaning and the tie.
 pub record Outcome (r : Rig) (b n : ℕ) (v : Verdict) (s : Rig) : Type 0 where

@@ -6,12 +6,12 @@ use Rattle.part.specs.declared.answers.Standing.TheVariants.{Running, Suspended}
 use Rattle.part.specs.Meaning.{block}
 use Rattle.driver.specs.declared.notes.Notes.{Notes}
 use Rattle.driver.specs.Notes.{agrees, Tied}
-use Rattle.driver.specs.ProofOfLawful.{when_running}
 use Rattle.driver.specs.Rig.{Job, Doing, resting, stopping, start, Rig, later, SameChip, meaning}
 use Rattle.driver.specs.Status.{dq6}
 use Rattle.driver.specs.Cycles.{Shows, Elapses}
 use Rattle.driver.specs.Steps.{LooksTwice, Halts, Suspends}
-use Rattle.driver.proofs.Changing.{is_erases, later_more, still_read, same_more, same_cycle, same_later, only_read}
+use Rattle.driver.proofs.Changing.{later_more, still_read, same_more, same_cycle, same_later, only_read}
+use Rattle.driver.proofs.Tying.{is_erases, when_running}
 
 abbrev pub with_toggle : Job → Bool → Job
 with_toggle j t = record j { toggle = t }

@@ -14,8 +14,8 @@ use Rattle.driver.specs.Cycles.{flipped, Shows}
 use Rattle.driver.specs.Sound.{Sound}
 use Rattle.driver.specs.Notes.{agrees, Tied}
 use Rattle.driver.specs.Calls.{Peeks}
-use Rattle.driver.specs.ProofOfLawful.{when_idle, when_running, when_held}
 use Rattle.driver.proofs.Changing.{same_cycle, only_read, still_read}
+use Rattle.driver.proofs.Tying.{when_idle, when_running, when_held}
 
 -- The notes tell which erasure stands.
 pub standing_is : (n : ℕ) (d : Doing) (st : Standing) → agrees n d st ≡ true → standing_of (erasure_in d) ≡ st

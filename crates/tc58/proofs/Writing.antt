@@ -1,6 +1,7 @@
 -- A write cycle of a chip is what the table of commands says.
-use Rattle.std.proofs.Common.{◌≡◌, ℕ, ◌+◌, ◌^◌, ◌<◌, Bool, true, false, cond, ◌&&◌, ◌||◌, eqb, ltb, length, get_or, None, Ok, Err, Option, Result, sym, refl, ap, ◌∙◌, subst, inl, inr, arith, lit≤}
-use Rattle.std.proofs.lemmas.Bool.{cases_Bool, cond-true, cond-false, eq-eqb, eqb-true, ltb-true, lt-ltb}
+use Rattle.std.proofs.Common.{◌≡◌, ℕ, zero, suc, ◌+◌, ◌^◌, ◌<◌, Bool, true, false, cond, ◌&&◌, ◌||◌, eqb, ltb, length, get_or, None, Ok, Err, Option, Result, sym, refl, ap, ◌∙◌, subst, inl, inr, arith, lit≤}
+use Rattle.std.proofs.lemmas.Bool.{cases_Bool, cond-true, cond-false, eq-eqb, eqb-true, ltb-true, lt-ltb, le-ltb}
+use Rattle.std.proofs.lemmas.Bool.Decides.{nat_tests}
 use Rattle.fault.specs.declared.faults.ChipFault.{ChipFault}
 use Rattle.fault.specs.declared.cause.Cause.TheVariants.{AddressOutside}
 use Rattle.fault.specs.Limits.{needs_erase}
@@ -32,7 +33,6 @@ use Rattle.part.specs.Meaning as meanings
 use Rattle.driver.specs.Rig.{Job, Doing, resting, programming, erasing, stopping, start, does, inside, LiesIn, meaning, program_time, erase_time}
 use Rattle.driver.specs.Cycles.{Burnable, Heeds, Writes}
 use Rattle.tc58.specs.Rigs.{marks, sheet_of, place_of, left_of, with_job, doing_of, rig_of}
-use Rattle.tc58.specs.ProofOfSound.{mark_at}
 use Rattle.tc58.proofs.Jobs.{good_job, ready_is, names_is, erases_is, holds_is, fails_is}
 use Rattle.tc58.proofs.OneBlock.{erase_time_one}
 
@@ -41,6 +41,17 @@ pub inside_is : (f : Flash) (a : ℕ) → inside (sheet_of f.setup.kind) a ≡ f
 inside_is f a = ap (ltb a) (every_total f.setup.kind)
 
 -- The marks of the blocks that there are.
+mark_at : (from n : ℕ) (set : BlockSet) (b : ℕ) → get_or (marks from n set) b false ≡ (ltb b n && has set (from + b))
+mark_at from zero set b = ap (λ (t : Bool). t && has set (from + b)) (sym (le-ltb b 0 (omega arith)))
+mark_at from (suc n) set zero =
+    let e : from + 0 ≡ from = omega arith in
+    let t : ltb 0 (suc n) ≡ true = lt-ltb 0 (suc n) (omega arith) in
+    rw (e, t)
+mark_at from (suc n) set (suc b) =
+    let e : from + 1 + b ≡ from + suc b = omega arith in
+    let t : ltb (suc b) (suc n) ≡ ltb b n = grind (arith, nat_tests) in
+    mark_at (from + 1) n set b ∙ ap (λ (k : ℕ). ltb b n && has set k) e ∙ ap (λ (u : Bool). u && has set (from + suc b)) (sym t)
+
 pub mark_is : (f : Flash) (set : BlockSet) (b : ℕ) → b < length (blocks f) → get_or (marks 0 (length (blocks f)) set) b false ≡ has set b
 mark_is f set b l =
     let z : 0 + b ≡ b = omega arith in
