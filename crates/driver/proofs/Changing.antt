@@ -2,7 +2,7 @@
 use Rattle.std.proofs.Common.{◌≡◌, ℕ, ◌+◌, ◌%◌, ◌<◌, true, leb, List, Ok, Result, sym, ap, ◌∙◌, subst, inl, inr, arith}
 use Rattle.fault.specs.declared.faults.ChipFault.{ChipFault}
 use Rattle.fault.specs.Limits.{longest}
-use Rattle.driver.specs.Rig.{Job, Doing, Rig, does, later, SameChip, inside}
+use Rattle.driver.specs.Rig.{Doing, Rig, does, later, SameChip, inside}
 use Rattle.driver.specs.Cycles.{flipped, Heeds, Writes, Shows, Reads, Elapses, Passes}
 
 pub does_more : (r s t : Rig) (d e : Doing) → s ≡ does r d → t ≡ does s e → t ≡ does r e

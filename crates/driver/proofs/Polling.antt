@@ -1,7 +1,7 @@
 -- The polls of a program, up to its end.
 use Rattle.std.proofs.Common.{◌≡◌, ℕ, ◌+◌, ◌-◌, ◌<◌, ◌≤◌, Bool, true, false, cond, not, List, length, set, None, sym, refl, ap, ◌∙◌, subst, inl, inr, arith, lit≤}
 use Rattle.std.proofs.lemmas.List.{get_or-set_same}
-use Rattle.std.proofs.lemmas.Bool.{cases_lt, cases_Bool, cond-true, cond-false, cond_both, ltb-true}
+use Rattle.std.proofs.lemmas.Bool.{cases_lt, cases_Bool, cond-true, cond-false, ltb-true}
 use Rattle.part.specs.Meaning.{block, worn}
 use Rattle.driver.specs.declared.verdict.Verdict.{Verdict}
 use Rattle.driver.specs.declared.verdict.Verdict.TheVariants.{Busy, Done, Failed}
@@ -90,14 +90,6 @@ module _ (r : Rig) (a byte : ℕ) (small : byte < 256) (sound : Sound r) (k : Bu
       | inr good ↦ last_done p.waited s p.seen l h good p.passes p.shows v p.is
     ]
   ]
-
-pub program_least : (r : Rig) (a : ℕ) → Sound r → 1 ≤ program_time r a
-program_least r a s =
-    cond_both (worn (meaning r) (block (meaning r) a)) _ _ (λ (n : ℕ). 1 ≤ n) (λ _. lit≤ tt) (λ _. s.program_least)
-
-pub program_most : (r : Rig) (a : ℕ) → Sound r → program_time r a ≤ 300
-program_most r a s =
-    cond_both (worn (meaning r) (block (meaning r) a)) _ _ (λ (n : ℕ). n ≤ 300) (λ _. lit≤ tt) (λ _. s.program_most)
 
 -- The same by what was found.
 apart : (v : Verdict) {A : Type 0} → v ≡ Busy → v ≡ Done → A

@@ -9,7 +9,7 @@ use Rattle.part.specs.Calls.{answer, hides, bars, outside}
 use Rattle.part.specs.Standings.{hid, barred}
 use Rattle.part.proofs.Standings.{hid_is, barred_is, hides_none, unbarred}
 use Rattle.driver.specs.declared.notes.Notes.{Notes}
-use Rattle.driver.specs.Rig.{Job, Doing, resting, naming, programming, erasing, stopping, failed, other, start, Rig, inside, erasure_in, meaning}
+use Rattle.driver.specs.Rig.{Job, Doing, resting, identifying, programming, erasing, stopping, failed, other, start, Rig, inside, erasure_in, meaning}
 use Rattle.driver.specs.Cycles.{flipped, Shows}
 use Rattle.driver.specs.Sound.{Sound}
 use Rattle.driver.specs.Notes.{agrees, Tied}
@@ -34,7 +34,7 @@ bars_is r n b t = ap (λ (s : Standing). barred s b) (sym (standing_is (length r
 -- A read leaves the meaning, and the tie.
 erasure_flipped : (d : Doing) → erasure_in (flipped d) ≡ erasure_in d
 erasure_flipped (resting o p) = refl
-erasure_flipped (naming z) = refl
+erasure_flipped (identifying z) = refl
 erasure_flipped (programming p o) = refl
 erasure_flipped (erasing j) = refl
 erasure_flipped (stopping j w) = refl
@@ -74,9 +74,9 @@ cell_read r s n a byte t x h = by n.standing t.follows
         true≢false (sym (eq-eqb k.0.block (block (meaning r) a) own_block) ∙ sym (held_hides r (block (meaning r) a) k.0 k.1) ∙ h))
 
 -- the peek
-pub peek_hidden : (r s : Rig) (n : Notes) (a byte : ℕ) → Sound r → Tied r n → inside r.sheet a ≡ true → Shows r a byte s
+pub peek_in_the_way : (r s : Rig) (n : Notes) (a byte : ℕ) → Sound r → Tied r n → inside r.sheet a ≡ true → Shows r a byte s
     → hid n.standing (block (meaning r) a) ≡ true → Peeks r a (Err (record { cause = ErasureInTheWay; place = a })) s
-peek_hidden r s n a byte k t i x h =
+peek_in_the_way r s n a byte k t i x h =
     let m : Meaning = meaning r in
     record {
       answer =
@@ -124,7 +124,7 @@ free_read r s n a byte t x b =
 -- A read leaves the notes tied.
 agrees_flipped : (n : ℕ) (d : Doing) (st : Standing) → agrees n (flipped d) st ≡ agrees n d st
 agrees_flipped n (resting o p) st = refl
-agrees_flipped n (naming z) st = refl
+agrees_flipped n (identifying z) st = refl
 agrees_flipped n (programming p o) st = refl
 agrees_flipped n (erasing j) Idle = refl
 agrees_flipped n (erasing j) (Running b) = refl
