@@ -7,6 +7,7 @@ use Rattle.fault.specs.Causes.{number_of}
 use Rattle.fault.specs.declared.faults.PartFault.{PartFault}
 use Rattle.fault.specs.Limits.{needs_erase}
 use Rattle.geometry.specs.Sets.{has}
+use Rattle.flash.specs.Limits.{longest_program}
 use Rattle.part.specs.Meaning.{Meaning, cell, block, guarded, worn}
 use Rattle.part.specs.Calls.{answer, bars, outside, burn_no, Refused, BurntBy}
 use Rattle.part.specs.Standings.{barred, burn_why}
@@ -93,7 +94,7 @@ module _ (r k : Rig) (n : Notes) (a old byte : ℕ) (sound : Sound r) (t : Tied 
             (subst (λ (u : Bool). Refused u m (meaning k)) (sym not_worn) (same_means r k a old x));
         time =
             ap (λ (y : Meaning). y.clock) (same_means r k a old x) ∙ sym z
-            ∙ ap (λ (d : ℕ). (r.clock + d) % 4294967296) (sym (cond-false (eqb (number_of c) 8) 300 0 not_worn));
+            ∙ ap (λ (d : ℕ). (r.clock + d) % 4294967296) (sym (cond-false (eqb (number_of c) 8) longest_program 0 not_worn));
         chip = same_cycle r k (only_read r k a old x);
       }
 

@@ -2,14 +2,8 @@
 use Rattle.std.proofs.Common.{◌≡◌, ℕ, ◌+◌, ◌%◌, ◌<◌, true, leb, List, Ok, Result, sym, ap, ◌∙◌, subst, inl, inr, arith}
 use Rattle.fault.specs.declared.faults.ChipFault.{ChipFault}
 use Rattle.fault.specs.Limits.{longest}
-use Rattle.std.proofs.lemmas.Bool.{and_from, eq-eqb, lt-ltb, le-leb}
-use Rattle.driver.specs.Notes.{erases}
-use Rattle.driver.specs.ProofOfLawful.{Erases}
-use Rattle.driver.specs.Rig.{Job, Doing, Rig, does, later, SameChip, inside}
+use Rattle.driver.specs.Rig.{Doing, Rig, does, later, SameChip, inside}
 use Rattle.driver.specs.Cycles.{flipped, Heeds, Writes, Shows, Reads, Elapses, Passes}
-
-pub is_erases : (n b : ℕ) (j : Job) → Erases n b j → erases n b j ≡ true
-is_erases n b j e = and_from _ _ (and_from _ _ (eq-eqb _ _ e.block) (lt-ltb _ _ e.within)) (le-leb _ _ e.lasts)
 
 pub does_more : (r s t : Rig) (d e : Doing) → s ≡ does r d → t ≡ does s e → t ≡ does r e
 does_more r s t d e p q = q ∙ ap (λ (x : Rig). does x e) p

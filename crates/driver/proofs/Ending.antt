@@ -1,6 +1,7 @@
 -- Time on a running erasure and the look after it, in the words of a part.
-use Rattle.std.proofs.Common.{◌≡◌, ℕ, ◌-◌, ◌<◌, ◌≤◌, true, false, eqb, ltb, leb, List, length, get_or, Some, None, Ok, Option, sym, refl, ap, ◌∙◌, subst, inl, inr, arith}
+use Rattle.std.proofs.Common.{◌≡◌, ℕ, ◌-◌, ◌<◌, ◌≤◌, true, false, eqb, ltb, leb, List, length, get_or, Some, None, Ok, Option, Result, sym, refl, ap, ◌∙◌, subst, inl, inr, arith}
 use Rattle.std.proofs.lemmas.Bool.{cases_lt, cases_Bool, lt-ltb, le-ltb, eq-eqb, ltb-true, cond-true, cond-false}
+use Rattle.fault.specs.declared.faults.ChipFault.{ChipFault}
 use Rattle.fault.specs.Limits.{longest}
 use Rattle.geometry.specs.Blocks.{start_of, block_of, wiped}
 use Rattle.geometry.proofs.Wiping.{wiped_at}
@@ -13,13 +14,13 @@ use Rattle.driver.specs.declared.verdict.Verdict.{Verdict}
 use Rattle.driver.specs.declared.verdict.Verdict.TheVariants.{Busy, Done, Failed}
 use Rattle.driver.specs.declared.notes.Notes.{Notes}
 use Rattle.driver.specs.Rig.{Job, resting, erasing, failed, start, Rig, does, later, SameChip, erasure_in, meaning}
-use Rattle.driver.specs.Cycles.{flip_job, Elapses}
+use Rattle.driver.specs.Cycles.{flip_job, Elapses, Passes}
 use Rattle.driver.specs.Sound.{Sound}
 use Rattle.driver.specs.Notes.{agrees, Tied}
 use Rattle.driver.specs.Calls.{Waits}
 use Rattle.driver.specs.Steps.{progress_of, stands_after, Looks}
-use Rattle.driver.specs.ProofOfLawful.{when_running}
-use Rattle.driver.proofs.Changing.{is_erases, same_later, same_cycle, same_more}
+use Rattle.driver.proofs.Changing.{same_later, same_cycle, same_more, granted_pass}
+use Rattle.driver.proofs.Tying.{is_erases, when_running}
 
 -- What the look at the end of a pass of n microseconds says: the answer, the meaning and the tie.
 pub record Outcome (r : Rig) (b n : ℕ) (v : Verdict) (s : Rig) : Type 0 where
@@ -102,23 +103,26 @@ module _ (r : Rig) (sound : Sound r) (j : Job) (e : r.doing ≡ erasing j) (l : 
   ]
 
 module _ (r m s : Rig) (notes : Notes) (b n : ℕ) (v : Verdict) (sound : Sound r) (t : Tied r notes) (runs : notes.standing ≡ Running b)
-    (short : leb n longest ≡ true) (p : Elapses r n m) (k : Looks m b v s) where
+    (x : Result (Unit {0}) ChipFault) (done : Unit {0}) (passes : Passes r n x m) (got : x ≡ Ok done) (k : Looks m b v s) where
+  gone : (leb n longest ≡ true) × Elapses r n m
+  gone = granted_pass r m n x done passes got
+
   same_chip : SameChip r s
-  same_chip = same_more r m s (same_later r m n p.only) (same_cycle m s k.only)
+  same_chip = same_more r m s (same_later r m n gone.1.only) (same_cycle m s k.only)
 
   of_block : Outcome r b n v s
   of_block =
       let w = when_running (length r.sheet.sizes) b r.doing (subst (λ (st : Standing). agrees (length r.sheet.sizes) r.doing st ≡ true) runs t.follows) in
       let own : w.0.block ≡ b = w.2.block in
       subst (λ (c : ℕ). Outcome r c n v s) own
-      (outcome r sound w.0 w.1 (omega (arith, own, w.2.within)) w.2.lasts n m s v p (subst (λ (c : ℕ). Looks m c v s) (sym own) k))
+      (outcome r sound w.0 w.1 (omega (arith, own, w.2.within)) w.2.lasts n m s v gone.1 (subst (λ (c : ℕ). Looks m c v s) (sym own) k))
 
   pub waits : (found : Progress) → found ≡ progress_of v → Waits r n (Ok found) s
   waits found f = record {
     answer =
         ap Ok (f ∙ sym of_block.tells)
-        ∙ sym (ap (λ o. answer o n (progress (meaning r) n (meaning r).erasure)) (cond-true (leb n longest) None _ short));
-    passed = of_block.means ∙ sym (cond-true (leb n longest) _ _ short);
+        ∙ sym (ap (λ o. answer o n (progress (meaning r) n (meaning r).erasure)) (cond-true (leb n longest) None _ gone.0));
+    passed = of_block.means ∙ sym (cond-true (leb n longest) _ _ gone.0);
     chip = same_chip;
   }
 

@@ -6,12 +6,12 @@ use Rattle.part.specs.declared.answers.Standing.TheVariants.{Running, Suspended}
 use Rattle.part.specs.Meaning.{block}
 use Rattle.driver.specs.declared.notes.Notes.{Notes}
 use Rattle.driver.specs.Notes.{agrees, Tied}
-use Rattle.driver.specs.ProofOfLawful.{when_running}
 use Rattle.driver.specs.Rig.{Job, Doing, resting, stopping, start, Rig, later, SameChip, meaning}
 use Rattle.driver.specs.Status.{dq6}
 use Rattle.driver.specs.Cycles.{Shows, Elapses}
 use Rattle.driver.specs.Steps.{LooksTwice, Halts, Suspends}
-use Rattle.driver.proofs.Changing.{is_erases, later_more, still_read, same_more, same_cycle, same_later, only_read}
+use Rattle.driver.proofs.Changing.{later_more, still_read, same_more, same_cycle, same_later, only_read}
+use Rattle.driver.proofs.Tying.{is_erases, when_running}
 
 abbrev pub with_toggle : Job → Bool → Job
 with_toggle j t = record j { toggle = t }
@@ -85,18 +85,28 @@ if_at_last {answer = answer} (not_yet e l t x) n = absurd (both_ways answer e n)
 if_at_last (at_last e x) n = x
 
 -- A turn leaves the same chip.
-pub twice_same : (r s : Rig) (a : ℕ) (answer : Bool) → LooksTwice r a answer s → SameChip r s
+twice_same : (r s : Rig) (a : ℕ) (answer : Bool) → LooksTwice r a answer s → SameChip r s
 twice_same r s a answer p =
     same_more r p.between s
     (same_more r p.waited p.between (same_later r p.waited 1 p.passes.only) (same_cycle p.waited p.between (only_read p.waited p.between a p.one p.first)))
     (same_cycle p.between s (only_read p.between s a p.other p.second))
 
--- A turn of a chip of which only the loop's invariant is known.
-pub turned_after : (r : Rig) (a : ℕ) (j : Job) → block (meaning r) a ≡ j.block → (i : ℕ) (h : Rig)
-    → (i < r.suspend) × ((t : Bool) × (h ≡ later r i r.cells (stopping (with_toggle j t) (r.suspend - i))))
-    → (answer : Bool) (s : Rig) → LooksTwice h a answer s → Turned r j i answer s
-turned_after r a j own i h inv answer s p =
-    turned r a j own i inv.1.0 inv.0 answer s (subst (λ (y : Rig). LooksTwice y a answer s) inv.1.1 p)
+-- After i turns as many microseconds have passed and are off what was left, and it is the same chip.
+abbrev pub Waiting : Rig → ℕ → ℕ → Rig → Type 0
+Waiting r a i h =
+    SameChip r h
+    × ((j : Job) → block (meaning r) a ≡ j.block → r.doing ≡ stopping j r.suspend
+    → (i < r.suspend) × ((t : Bool) × (h ≡ later r i r.cells (stopping (with_toggle j t) (r.suspend - i)))))
+
+-- One turn more.
+pub turned_more : (r : Rig) (a i : ℕ) (h : Rig) → Waiting r a i h → (answer : Bool) (s : Rig) → LooksTwice h a answer s
+    → SameChip r s × ((j : Job) → block (meaning r) a ≡ j.block → r.doing ≡ stopping j r.suspend → Turned r j i answer s)
+turned_more r a i h inv answer s p = (
+  same_more r h s inv.0 (twice_same h s a answer p),
+  λ j own e.
+      let on = inv.1 j own e in
+      turned r a j own i on.1.0 on.0 answer s (subst (λ (y : Rig). LooksTwice y a answer s) on.1.1 p),
+)
 
 -- A suspended erase is the one that the notes say is held.
 pub held_tied : (r s : Rig) (n : Notes) (b : ℕ) → Tied r n → n.standing ≡ Running b → Suspends r b s

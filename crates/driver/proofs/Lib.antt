@@ -1,5 +1,6 @@
 pub mod Judging
 pub mod Changing
+pub mod Tying
 pub mod Polling
 pub mod Halting
 pub mod Looking

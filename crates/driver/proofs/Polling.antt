@@ -1,7 +1,7 @@
 -- The polls of a program, up to its end.
 use Rattle.std.proofs.Common.{◌≡◌, ℕ, ◌+◌, ◌-◌, ◌<◌, ◌≤◌, Bool, true, false, cond, not, List, length, set, None, sym, refl, ap, ◌∙◌, subst, inl, inr, arith, lit≤}
 use Rattle.std.proofs.lemmas.List.{get_or-set_same}
-use Rattle.std.proofs.lemmas.Bool.{cases_lt, cases_Bool, cond-true, cond-false, cond_both, ltb-true}
+use Rattle.std.proofs.lemmas.Bool.{cases_lt, cases_Bool, cond-true, cond-false, ltb-true}
 use Rattle.part.specs.Meaning.{block, worn}
 use Rattle.driver.specs.declared.verdict.Verdict.{Verdict}
 use Rattle.driver.specs.declared.verdict.Verdict.TheVariants.{Busy, Done, Failed}
@@ -91,14 +91,6 @@ module _ (r : Rig) (a byte : ℕ) (small : byte < 256) (sound : Sound r) (k : Bu
     ]
   ]
 
-pub program_least : (r : Rig) (a : ℕ) → Sound r → 1 ≤ program_time r a
-program_least r a s =
-    cond_both (worn (meaning r) (block (meaning r) a)) _ _ (λ (n : ℕ). 1 ≤ n) (λ _. lit≤ tt) (λ _. s.program_least)
-
-pub program_most : (r : Rig) (a : ℕ) → Sound r → program_time r a ≤ 300
-program_most r a s =
-    cond_both (worn (meaning r) (block (meaning r) a)) _ _ (λ (n : ℕ). n ≤ 300) (λ _. lit≤ tt) (λ _. s.program_most)
-
 -- The same by what was found.
 apart : (v : Verdict) {A : Type 0} → v ≡ Busy → v ≡ Done → A
 apart v p q = let z : ◌≡◌ {A = ℕ} 0 1 = cc in absurd (omega arith)
@@ -139,14 +131,20 @@ if_failed {r = r} {a = a} {byte = byte} {s = s} (broken e n t x) f m h =
           ∙ ap (λ (c : List ℕ). later r (program_time r a) c (resting None start)) (sym (cond-true (worn (meaning r) (block (meaning r) a)) r.cells (set r.cells a byte) n)),
     )
 
--- A poll leaves the same chip.
-pub polled_same : (r s : Rig) (a wanted : ℕ) (v : Verdict) → Polls r a wanted v s → SameChip r s
-polled_same r s a wanted v p =
-    same_more r p.waited s (same_later r p.waited 1 p.passes.only) (same_cycle p.waited s (only_read p.waited s a p.seen p.shows))
+-- After i polls as many microseconds have passed and are off what was left, and it is the same chip.
+abbrev pub OnTheWay : Rig → ℕ → ℕ → ℕ → Rig → Type 0
+OnTheWay r a byte i h =
+    SameChip r h
+    × (Burnable r a byte → r.doing ≡ programming (burn a byte (program_time r a) false) None
+    → (i < program_time r a) × ((t : Bool) × (h ≡ later r i r.cells (programming (burn a byte (program_time r a - i) t) None))))
 
--- A poll of a chip of which only the loop's invariant is known.
-pub found_after : (r : Rig) (a byte : ℕ) → byte < 256 → Sound r → Burnable r a byte → (i : ℕ) (h : Rig)
-    → (i < program_time r a) × ((t : Bool) × (h ≡ later r i r.cells (programming (burn a byte (program_time r a - i) t) None)))
-    → (v : Verdict) (s : Rig) → Polls h a byte v s → Found r a byte i v s
-found_after r a byte small sound k i h inv v s p =
-    found r a byte small sound k i inv.1.0 inv.0 v s (subst (λ (y : Rig). Polls y a byte v s) inv.1.1 p)
+-- One poll more.
+pub polled : (r : Rig) (a byte : ℕ) → byte < 256 → Sound r → (i : ℕ) (h : Rig) → OnTheWay r a byte i h → (v : Verdict) (s : Rig) → Polls h a byte v s
+    → SameChip r s × (Burnable r a byte → r.doing ≡ programming (burn a byte (program_time r a) false) None → Found r a byte i v s)
+polled r a byte small sound i h inv v s p = (
+  same_more r h s inv.0
+      (same_more h p.waited s (same_later h p.waited 1 p.passes.only) (same_cycle p.waited s (only_read p.waited s a p.seen p.shows))),
+  λ k e.
+      let on = inv.1 k e in
+      found r a byte small sound k i on.1.0 on.0 v s (subst (λ (y : Rig). Polls y a byte v s) on.1.1 p),
+)

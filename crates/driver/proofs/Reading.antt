@@ -1,7 +1,8 @@
 -- A read of a chip to which the notes are tied, in the words of a part.
-use Rattle.std.proofs.Common.{◌≡◌, ℕ, true, false, eqb, length, Some, None, Ok, Err, Option, is_some, sym, refl, ap, ◌∙◌, subst, inl, inr, arith}
-use Rattle.std.proofs.lemmas.Bool.{lt-leb, ltb-true, cond-true, cond-false, true≢false, eq-eqb}
+use Rattle.std.proofs.Common.{◌≡◌, ℕ, Bool, true, false, cond, eqb, length, Some, None, Ok, Err, Option, Result, is_some, sym, refl, ap, ◌∙◌, subst, inl, inr, arith}
+use Rattle.std.proofs.lemmas.Bool.{lt-leb, ltb-true, cond-false, true≢false, eq-eqb}
 use Rattle.fault.specs.declared.cause.Cause.TheVariants.{ErasureInTheWay}
+use Rattle.fault.specs.declared.faults.ChipFault.{ChipFault}
 use Rattle.part.specs.declared.answers.Standing.{Standing}
 use Rattle.part.specs.declared.answers.Standing.TheVariants.{Idle, Running, Suspended}
 use Rattle.part.specs.Meaning.{Erasure, Meaning, cell, block, standing_of}
@@ -9,13 +10,13 @@ use Rattle.part.specs.Calls.{answer, stands, hides, bars, outside}
 use Rattle.part.specs.Standings.{hid, barred}
 use Rattle.part.proofs.Standings.{hid_is, barred_is, hides_none}
 use Rattle.driver.specs.declared.notes.Notes.{Notes}
-use Rattle.driver.specs.Rig.{Job, Doing, resting, naming, programming, erasing, stopping, failed, other, start, Rig, inside, erasure_in, meaning}
-use Rattle.driver.specs.Cycles.{flipped, Shows}
+use Rattle.driver.specs.Rig.{Job, Doing, resting, identifying, programming, erasing, stopping, failed, other, start, Rig, SameChip, inside, erasure_in, meaning}
+use Rattle.driver.specs.Cycles.{flipped, Shows, Reads}
 use Rattle.driver.specs.Sound.{Sound}
 use Rattle.driver.specs.Notes.{agrees, Tied}
 use Rattle.driver.specs.Calls.{Peeks}
-use Rattle.driver.specs.ProofOfLawful.{when_idle, when_running, when_held}
-use Rattle.driver.proofs.Changing.{same_cycle, only_read, still_read}
+use Rattle.driver.proofs.Changing.{same_cycle, only_read, still_read, granted_read}
+use Rattle.driver.proofs.Tying.{when_idle, when_running, when_held}
 
 -- The notes tell which erasure stands.
 pub standing_is : (n : ℕ) (d : Doing) (st : Standing) → agrees n d st ≡ true → standing_of (erasure_in d) ≡ st
@@ -34,7 +35,7 @@ bars_is r n b t = ap (λ (s : Standing). barred s b) (sym (standing_is (length r
 -- A read leaves the meaning, and the tie.
 erasure_flipped : (d : Doing) → erasure_in (flipped d) ≡ erasure_in d
 erasure_flipped (resting o p) = refl
-erasure_flipped (naming z) = refl
+erasure_flipped (identifying z) = refl
 erasure_flipped (programming p o) = refl
 erasure_flipped (erasing j) = refl
 erasure_flipped (stopping j w) = refl
@@ -73,31 +74,36 @@ cell_read r s n a byte t x h = by n.standing t.follows
         let own_block : k.0.block ≡ block (meaning r) a = ap (λ (y : Job). y.block) same ∙ sym own in
         true≢false (sym (eq-eqb k.0.block (block (meaning r) a) own_block) ∙ sym (held_hides r (block (meaning r) a) k.0 k.1) ∙ h))
 
--- the peek
-pub peek_hidden : (r s : Rig) (n : Notes) (a byte : ℕ) → Sound r → Tied r n → inside r.sheet a ≡ true → Shows r a byte s
-    → hid n.standing (block (meaning r) a) ≡ true → Peeks r a (Err (record { cause = ErasureInTheWay; place = a })) s
-peek_hidden r s n a byte k t i x h =
-    let m : Meaning = meaning r in
-    record {
-      answer =
-          sym (ap (λ o. answer o a (cell m a))
-          (cond-false (outside m a) _ _ (within_is r a k i) ∙ cond-true (hides m (block m a)) _ _ (sym (hides_is r n (block m a) t) ∙ h)));
-      same = same_means r s a byte x;
-      chip = same_cycle r s (only_read r s a byte x);
-    }
+-- The peek, by whether the notes hide the block that the address lies in.
+module _ (r s : Rig) (n : Notes) (a byte b : ℕ) (x : Result ℕ ChipFault) (k : Sound r) (t : Tied r n) (w : Reads r a x s) (got : x ≡ Ok byte)
+    (at : b ≡ block (meaning s) a) where
+  abbrev m : Meaning
+  m = meaning r
 
-pub peek_shown : (r s : Rig) (n : Notes) (a byte : ℕ) → Sound r → Tied r n → inside r.sheet a ≡ true → Shows r a byte s
-    → hid n.standing (block (meaning r) a) ≡ false → Peeks r a (Ok byte) s
-peek_shown r s n a byte k t i x h =
-    let m : Meaning = meaning r in
-    let free : hides m (block m a) ≡ false = sym (hides_is r n (block m a) t) ∙ h in
-    record {
-      answer =
-          ap Ok (cell_read r s n a byte t x free)
-          ∙ sym (ap (λ o. answer o a (cell m a)) (cond-false (outside m a) _ _ (within_is r a k i) ∙ cond-false (hides m (block m a)) _ _ free));
-      same = same_means r s a byte x;
-      chip = same_cycle r s (only_read r s a byte x);
-    }
+  q : (inside r.sheet a ≡ true) × Shows r a byte s
+  q = granted_read r s a byte x w got
+
+  same_chip : SameChip r s
+  same_chip = same_cycle r s (only_read r s a byte q.1)
+
+  hidden : hides m (block m a) ≡ hid n.standing b
+  hidden = sym (hides_is r n (block m a) t) ∙ ap (hid n.standing) (sym (at ∙ ap (λ (y : Rig). block (meaning y) a) same_chip))
+
+  shown : (h : Bool) → hides m (block m a) ≡ h
+      → cond h (Err (record { cause = ErasureInTheWay; place = a })) (Ok byte) ≡ answer (cond h (Some ErasureInTheWay) None) a (cell m a)
+  shown true e = refl
+  shown false e = ap Ok (cell_read r s n a byte t q.1 e)
+
+  pub peeked : (h : Bool) → hid n.standing b ≡ h → Peeks r a (cond h (Err (record { cause = ErasureInTheWay; place = a })) (Ok byte)) s
+  peeked h is =
+      let e = hidden ∙ is in
+      record {
+        answer =
+            shown h e
+            ∙ sym (ap (λ o. answer o a (cell m a)) (cond-false (outside m a) _ _ (within_is r a k q.0) ∙ ap (λ (u : Bool). cond u (Some ErasureInTheWay) None) e));
+        same = same_means r s a byte q.1;
+        chip = same_chip;
+      }
 
 -- Where no burn is barred, the chip is at rest, and a read changes nothing.
 pub record Free (r s : Rig) (a byte : ℕ) : Type 0 where
@@ -124,7 +130,7 @@ free_read r s n a byte t x b =
 -- A read leaves the notes tied.
 agrees_flipped : (n : ℕ) (d : Doing) (st : Standing) → agrees n (flipped d) st ≡ agrees n d st
 agrees_flipped n (resting o p) st = refl
-agrees_flipped n (naming z) st = refl
+agrees_flipped n (identifying z) st = refl
 agrees_flipped n (programming p o) st = refl
 agrees_flipped n (erasing j) Idle = refl
 agrees_flipped n (erasing j) (Running b) = refl

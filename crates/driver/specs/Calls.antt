@@ -1,14 +1,19 @@
 -- The driver's calls on a chip, in the words of a part. A part leaves its times open; here they are the chip's own.
-use Rattle.std.specs.Prelude.{◌≡◌, ℕ, ◌+◌, ◌%◌, true, Ok, Err, Some, Result, OnOk, ◌==◌, if◌then◌else◌}
+use Rattle.std.specs.Prelude.{◌≡◌, ℕ, ◌+◌, ◌%◌, true, false, length, Ok, Err, Some, Result, OnOk, ◌==◌, if◌then◌else◌, nat_le}
+use Rattle.fault.specs.declared.cause.Cause.{Cause}
+use Rattle.fault.specs.declared.cause.Cause.TheVariants.{AddressOutside, NoSuchBlock, TimeTooLong}
 use Rattle.fault.specs.Causes.{number_of}
+use Rattle.fault.specs.Limits.{longest}
 use Rattle.flash.specs.Limits.{longest_program}
 use Rattle.fault.specs.declared.faults.PartFault.{PartFault}
 use Rattle.part.specs.declared.answers.Progress.{Progress}
+use Rattle.part.specs.declared.answers.Standing.{Standing}
+use Rattle.part.specs.declared.answers.Standing.TheVariants.{Running, Suspended}
 use Rattle.part.specs.declared.answers.Turn.{Turn}
 use Rattle.part.specs.declared.answers.Turn.TheVariants.{Done, Nothing}
 use Rattle.part.specs.Meaning.{cell}
 use Rattle.part.specs.Calls.{answer, peek_no, burn_no, begin_no, time_no, Burnt, Begun, Held, can_hold, can_go, gone_on, progress, after_pass}
-use Rattle.driver.specs.Rig.{Rig, SameChip, meaning, erase_time}
+use Rattle.driver.specs.Rig.{Rig, does, SameChip, inside, meaning, erase_time}
 
 -- the microseconds that a burn takes: the chip's program time, or the longest where it is refused with 8
 abbrev pub burn_time : Rig → Result (Unit {0}) PartFault → ℕ
@@ -56,3 +61,34 @@ pub record Waits (r : Rig) (n : ℕ) (result : Result Progress PartFault) (s : R
   pub answer : result ≡ answer (time_no n) n (progress (meaning r) n (meaning r).erasure)
   pub passed : meaning s ≡ after_pass (meaning r) n
   pub chip : SameChip r s
+
+-- The rest holds for every chip and all notes, tied or not.
+
+-- only what the chip is doing may be another: it is the same chip, with the same cells and at the same microsecond
+abbrev pub AtOnce : Rig → Rig → Type 0
+AtOnce r s = s ≡ does r s.doing
+
+-- refused at a place, and the chip is as it was
+abbrev pub RefusedFor : {X : Type 0} → Cause → Rig → ℕ → Result X PartFault → Rig → Type 0
+RefusedFor cause r place result s = (result ≡ Err (record { cause = cause; place = place })) × (s ≡ r)
+
+-- an address outside is refused
+abbrev pub InsideOnly : {X : Type 0} → Rig → ℕ → Result X PartFault → Rig → Type 0
+InsideOnly r a result s = inside r.sheet a ≡ false → RefusedFor AddressOutside r a result s
+
+-- a block that there is not is refused
+abbrev pub BlocksOnly : {X : Type 0} → Rig → ℕ → Result X PartFault → Rig → Type 0
+BlocksOnly r b result s = nat_le (length r.sheet.sizes) b ≡ true → RefusedFor NoSuchBlock r b result s
+
+-- a time over the longest is refused
+abbrev pub LongestAtMost : {X : Type 0} → Rig → ℕ → Result X PartFault → Rig → Type 0
+LongestAtMost r n result s = nat_le n longest ≡ false → RefusedFor TimeTooLong r n result s
+
+-- what the notes say there is to hold, and to go on with
+abbrev pub to_hold : Standing → Turn
+to_hold (Running b) = Done
+to_hold standing = Nothing
+
+abbrev pub to_go_on : Standing → Turn
+to_go_on (Suspended b) = Done
+to_go_on standing = Nothing

@@ -5,7 +5,7 @@ use Rattle.fault.specs.declared.faults.ChipFault.{ChipFault}
 use Rattle.fault.specs.Limits.{longest, needs_erase}
 use Rattle.geometry.specs.Blocks.{wiped}
 use Rattle.part.specs.Meaning.{cell, block, guarded, worn}
-use Rattle.driver.specs.Rig.{Job, Burn, Place, Doing, resting, naming, programming, erasing, stopping, failed, other, start, first_unlock, unlocked, program_setup, erase_setup, erase_first_unlock, erase_unlocked, Rig, does, later, inside, LiesIn, meaning, program_time, erase_time}
+use Rattle.driver.specs.Rig.{Job, Burn, Place, Doing, resting, identifying, programming, erasing, stopping, failed, other, start, first_unlock, unlocked, program_setup, erase_setup, erase_first_unlock, erase_unlocked, Rig, does, later, inside, LiesIn, meaning, program_time, erase_time}
 use Rattle.driver.specs.Status.{dq6, Status}
 
 -- a chip that does `from` does `to` afterwards, and nothing else has changed
@@ -30,8 +30,8 @@ pub record Heeds (r : Rig) (a byte : ℕ) (s : Rig) : Type 0 where
   pub unlocks : (b : ℕ) → b < length r.sheet.sizes → Is a byte (r.sheet.first b) 0xAA → Turns r s (resting None start) (resting None first_unlock)
   pub has_unlocked : (b : ℕ) → b < length r.sheet.sizes → Is a byte (r.sheet.second b) 0x55 → Turns r s (resting None first_unlock) (resting None unlocked)
   -- ID mode in a zone, and back
-  pub identifies : (b : ℕ) → b < length r.sheet.sizes → Is a byte (r.sheet.first b) 0x90 → Turns r s (resting None unlocked) (naming (r.sheet.zone b))
-  pub back : (zone : ℕ) → r.sheet.zone (block (meaning r) a) ≡ zone → byte ≡ 0xF0 → Turns r s (naming zone) (resting None start)
+  pub identifies : (b : ℕ) → b < length r.sheet.sizes → Is a byte (r.sheet.first b) 0x90 → Turns r s (resting None unlocked) (identifying (r.sheet.zone b))
+  pub back : (zone : ℕ) → r.sheet.zone (block (meaning r) a) ≡ zone → byte ≡ 0xF0 → Turns r s (identifying zone) (resting None start)
   -- a program
   pub sets_up : (b : ℕ) → b < length r.sheet.sizes → Is a byte (r.sheet.first b) 0xA0 → Turns r s (resting None unlocked) (resting None program_setup)
   pub programs : Burnable r a byte
@@ -61,7 +61,7 @@ flip_job j = record j { toggle = not j.toggle }
 
 abbrev pub flipped : Doing → Doing
 flipped (resting o place) = resting o place
-flipped (naming zone) = naming zone
+flipped (identifying zone) = identifying zone
 flipped (programming p o) = programming (record p { toggle = not p.toggle }) o
 flipped (erasing j) = erasing (flip_job j)
 flipped (stopping j wait) = stopping (flip_job j) wait
@@ -81,7 +81,7 @@ pub record Shows (r : Rig) (a byte : ℕ) (s : Rig) : Type 0 where
       → byte ≡ cell (meaning r) a
   pub stands_still : (j : Job) (p : Place) → r.doing ≡ resting (Some j) p → block (meaning r) a ≡ j.block → dq6 byte ≡ r.sheet.still
   -- 1 where ID mode is asked for a guarded block
-  pub names : (b : ℕ) → b < length r.sheet.sizes → r.doing ≡ naming (r.sheet.zone b) → a ≡ r.sheet.guard b
+  pub identifies : (b : ℕ) → b < length r.sheet.sizes → r.doing ≡ identifying (r.sheet.zone b) → a ≡ r.sheet.guard b
       → byte ≡ (if guarded (meaning r) b then 1 else 0)
   -- the status, where the operation is
   pub programs : (p : Burn) (o : Option Job) → r.doing ≡ programming p o → a ≡ p.address → StatusRead r byte s p.byte p.toggle false

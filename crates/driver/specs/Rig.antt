@@ -13,7 +13,8 @@ pub record Sheet : Type 0 where
   pub first : ℕ → ℕ
   pub second : ℕ → ℕ
   pub guard : ℕ → ℕ
-  -- for each block its zone: the status of an operation on the block, and the ID mode that was entered by it, are read in all of the zone
+  -- for each block its zone: the ID mode that was entered by the block, and the status of an operation in it that has failed, are read in all of the zone;
+  -- until then a program's status is asked at its address, and an erase's in its block
   pub zone : ℕ → ℕ
   -- DQ6 of a suspended block, the same at every read
   pub still : ℕ
@@ -45,7 +46,7 @@ pub data Doing : Type 0 where
   -- At rest, beside a suspended erasing or none, and at a place in a command sequence: cells are read.
   resting : Option Job → Place → Doing
   -- ID mode in a zone.
-  naming : ℕ → Doing
+  identifying : ℕ → Doing
   -- Programming, beside a suspended erasing or none.
   programming : Burn → Option Job → Doing
   erasing : Job → Doing
@@ -96,7 +97,7 @@ suspended (Some j) = Some (record { block = j.block; left = j.left; running = fa
 
 abbrev pub erasure_in : Doing → Option Erasure
 erasure_in (resting o place) = suspended o
-erasure_in (naming zone) = None
+erasure_in (identifying zone) = None
 erasure_in (programming p o) = suspended o
 erasure_in (erasing j) = Some (record { block = j.block; left = j.left; running = true })
 erasure_in (stopping j wait) = Some (record { block = j.block; left = j.left; running = true })

@@ -13,7 +13,7 @@ use Rattle.part.specs.Calls.{burn_no}
 use Rattle.part.specs.Meaning.{cell, block, guarded, worn}
 use Rattle.driver.specs.declared.verdict.Verdict.{Verdict}
 use Rattle.driver.specs.declared.verdict.Verdict.TheVariants.{Busy, Done, Failed}
-use Rattle.driver.specs.Rig.{Job, resting, naming, programming, erasing, stopping, failed, start, unlocked, program_setup, erase_setup, erase_unlocked, Rig, does, later, SameChip, meaning, program_time, erase_time}
+use Rattle.driver.specs.Rig.{Job, resting, identifying, programming, erasing, stopping, failed, start, unlocked, program_setup, erase_setup, erase_unlocked, Rig, does, later, SameChip, meaning, program_time, erase_time}
 use Rattle.driver.specs.Status.{dq6, judged}
 use Rattle.driver.specs.Calls.{Burns}
 use Rattle.driver.specs.Cycles.{Turns, Burnable, Heeds, Shows, Elapses, flip_job}
@@ -49,7 +49,7 @@ pub record Unlocks (r s : Rig) : Type 0 where
 -- the two unlocking writes and a command
 pub record Commands (r : Rig) (b byte : ℕ) (s : Rig) : Type 0 where
   pub only : s ≡ does r s.doing
-  pub identify : byte ≡ 0x90 → Turns r s (resting None start) (naming (r.sheet.zone b))
+  pub identify : byte ≡ 0x90 → Turns r s (resting None start) (identifying (r.sheet.zone b))
   pub program : byte ≡ 0xA0 → Turns r s (resting None start) (resting None program_setup)
   pub erase : byte ≡ 0x80 → Turns r s (resting None start) (resting None erase_setup)
 

@@ -12,7 +12,7 @@ use Rattle.chip.specs.declared.state.Erase.{Erase}
 use Rattle.chip.specs.declared.state.State.{State}
 use Rattle.chip.specs.declared.state.State.TheVariants.{Ready, Programming, Erasing, Suspending, Suspended, Failed}
 use Rattle.chip.specs.Flash.{Flash, blocks}
-use Rattle.driver.specs.Rig.{Job, Burn, Place, Doing, resting, naming, programming, erasing, stopping, failed, other, start, first_unlock, unlocked, program_setup, erase_setup, erase_first_unlock, erase_unlocked}
+use Rattle.driver.specs.Rig.{Job, Burn, Place, Doing, resting, identifying, programming, erasing, stopping, failed, other, start, first_unlock, unlocked, program_setup, erase_setup, erase_first_unlock, erase_unlocked}
 use Rattle.tc58.specs.Rigs.{place_of, sole, left_of, job_in, job_of, with_job, doing_of}
 
 -- The one block of a set.
@@ -106,7 +106,7 @@ same_place p q e = sym (back_of p) ∙ ap back e ∙ back_of q
 -- what a chip does, and what its driver sees of it
 pub data Sees (f : Flash) : State → Doing → Type 0 where
   reads : (q : ChipPlace) → Sees f (Ready Read q) (resting None (place_of q))
-  names : Sees f (Ready Id Start) (naming 0)
+  identifies : Sees f (Ready Id Start) (identifying 0)
   programs : (p : Program) → Sees f (Programming p) (programming (record { address = p.address; byte = p.byte; left = p.left; toggle = p.toggle }) None)
   erases : (e : Erase) (j : Job) → job_of f e ≡ Some j → Sees f (Erasing e) (erasing j)
   stops : (e : Erase) (wait : ℕ) (j : Job) → job_of f e ≡ Some j → Sees f (Suspending e wait) (stopping j wait)
@@ -120,7 +120,7 @@ with_erase f s what None k = nothing s
 
 pub sees : (f : Flash) (s : State) → Sees f s (doing_of f s)
 sees f (Ready Read q) = reads q
-sees f (Ready Id Start) = names
+sees f (Ready Id Start) = identifies
 sees f (Ready Id q) = nothing (Ready Id q)
 sees f (Programming p) = programs p
 sees f (Erasing e) = with_erase f (Erasing e) erasing (job_of f e) (erases e)
@@ -137,12 +137,12 @@ module _ (f : Flash) where
   pub ready_is : (s : State) (p : ChipPlace) → doing_of f s ≡ resting None (place_of p) → s ≡ Ready Read p
   ready_is s = when_read s (doing_of f s) (sees f s)
 
-  when_named : (s : State) (d : Doing) → Sees f s d → (z : ℕ) → d ≡ naming z → s ≡ Ready Id Start
-  when_named s d names z e = refl
-  when_named s d x z e = let n : ◌≡◌ {A = ℕ} 0 1 = cc in absurd (omega arith)
+  when_identifies : (s : State) (d : Doing) → Sees f s d → (z : ℕ) → d ≡ identifying z → s ≡ Ready Id Start
+  when_identifies s d identifies z e = refl
+  when_identifies s d x z e = let n : ◌≡◌ {A = ℕ} 0 1 = cc in absurd (omega arith)
 
-  pub names_is : (s : State) (z : ℕ) → doing_of f s ≡ naming z → s ≡ Ready Id Start
-  names_is s = when_named s (doing_of f s) (sees f s)
+  pub identifies_is : (s : State) (z : ℕ) → doing_of f s ≡ identifying z → s ≡ Ready Id Start
+  identifies_is s = when_identifies s (doing_of f s) (sees f s)
 
   abbrev burn_of : Program → Burn
   burn_of q = record { address = q.address; byte = q.byte; left = q.left; toggle = q.toggle }

@@ -11,6 +11,7 @@ use Rattle.geometry.proofs.Bitwise.{bit_one, and_one, ones_one}
 use Rattle.geometry.proofs.Sets.{same_set, has_without}
 use Rattle.geometry.proofs.Filling.{filled_at, length_filled}
 use Rattle.geometry.proofs.Wiping.{wiped_at, length_wiped}
+use Rattle.flash.specs.Limits.{longest_erase}
 use Rattle.chip.specs.Flash.{Flash, erasable}
 use Rattle.chip.specs.Times.{spoils, erase_time}
 
@@ -61,7 +62,7 @@ module _ (f : Flash) (set : BlockSet) (b : ℕ) (m : set.mask ≡ 2 ^ b) (open_b
       by true = lt-ltb 0 (2 ^ b) (omega (arith, pow_pos b))
       by false = refl
 
-  pub erase_time_one : erase_time f set ≡ cond (has f.setup.worn b) 10000000 f.setup.erase
+  pub erase_time_one : erase_time f set ≡ cond (has f.setup.worn b) longest_erase f.setup.erase
   erase_time_one =
       let one : count_of (erasable f set) ≡ 1 = ap count_of erasable_one ∙ ap (λ (x : ℕ). count_of (record { mask = x })) m ∙ ones_one b in
       rw (one, spoils_one) (omega arith)

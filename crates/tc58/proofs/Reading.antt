@@ -31,7 +31,7 @@ use Rattle.driver.specs.Status.{dq7, dq6, dq5, Status}
 use Rattle.driver.specs.Cycles.{flip_job, flipped, Shows, Reads}
 use Rattle.tc58.specs.Rigs.{guard_address, sheet_of, sole, left_of, job_in, job_of, with_job, doing_of, rig_of}
 use Rattle.tc58.specs.ProofOfSound.{every_plan_block, places}
-use Rattle.tc58.proofs.Jobs.{job_is, names_is, programs_is, erases_is, stops_is, holds_is, fails_is, alone, beside, rests_is}
+use Rattle.tc58.proofs.Jobs.{job_is, identifies_is, programs_is, erases_is, stops_is, holds_is, fails_is, alone, beside, rests_is}
 use Rattle.tc58.proofs.OneBlock.{one_has}
 use Rattle.tc58.proofs.Writing.{inside_is, guarded_is}
 
@@ -154,10 +154,10 @@ module _ (f : Flash) (a : ℕ) (i : inside (sheet_of f.setup.kind) a ≡ true) w
     stands_still = λ j p e own.
         let k = holds_is f f.state j p e in
         ap dq6 (byte_by (Suspended k.0) k.1 ∙ cond-true (lies_in f k.0.selected a) 0x80 (flash.cell f a) (own_block k.0 j k.2 ∙ eq-eqb _ _ own));
-    names = λ b l e at.
+    identifies = λ b l e at.
         let at_guard = (places f.setup.kind b l).guard in
         let here : block_of (blocks f) a ≡ b = ap (λ (x : ℕ). block_of (blocks f) x) at ∙ at_guard.1 in
-        byte_by (Ready Id Start) (names_is f f.state 0 e)
+        byte_by (Ready Id Start) (identifies_is f f.state 0 e)
         ∙ ap (λ (q : Question). answer (plans.sheet_of (plan_of f.setup.kind)) (ground_of f) a q)
         (ap (λ (x : ℕ). asked (plan_of f.setup.kind).choice x) at ∙ guard_asked f.setup.kind b l)
         ∙ ap (λ (t : Bool). cond t 1 0) (sym (guarded_is f a i) ∙ ap (guarded (meaning (rig_of f))) here);

@@ -1,13 +1,14 @@
 -- A write cycle of a chip is what the table of commands says.
-use Rattle.std.proofs.Common.{◌≡◌, ℕ, ◌+◌, ◌^◌, ◌<◌, Bool, true, false, cond, ◌&&◌, ◌||◌, eqb, ltb, length, get_or, None, Ok, Err, Option, Result, sym, refl, ap, ◌∙◌, subst, inl, inr, arith, lit≤}
-use Rattle.std.proofs.lemmas.Bool.{cases_Bool, cond-true, cond-false, eq-eqb, eqb-true, ltb-true, lt-ltb}
+use Rattle.std.proofs.Common.{◌≡◌, ℕ, zero, suc, ◌+◌, ◌^◌, ◌<◌, Bool, true, false, cond, ◌&&◌, ◌||◌, eqb, ltb, length, get_or, None, Ok, Err, Option, Result, sym, refl, ap, ◌∙◌, subst, inl, inr, arith, lit≤}
+use Rattle.std.proofs.lemmas.Bool.{cases_Bool, cond-true, cond-false, eq-eqb, eqb-true, ltb-true, lt-ltb, le-ltb}
+use Rattle.std.proofs.lemmas.Bool.Decides.{nat_tests}
 use Rattle.fault.specs.declared.faults.ChipFault.{ChipFault}
 use Rattle.fault.specs.declared.cause.Cause.TheVariants.{AddressOutside}
 use Rattle.fault.specs.Limits.{needs_erase}
 use Rattle.geometry.specs.declared.set.BlockSet.{BlockSet}
 use Rattle.geometry.specs.declared.datasheet.Commands.{Commands}
 use Rattle.geometry.specs.Blocks.{block_of}
-use Rattle.geometry.specs.Sets.{has, only}
+use Rattle.geometry.specs.Sets.{largest_set, has, only}
 use Rattle.geometry.specs.Sheets.{low_bits}
 use Rattle.geometry.specs.Plans.{Plan, plan_of}
 use Rattle.geometry.proofs.Placing.{every_plan, every_total, every_few, every_block}
@@ -16,6 +17,7 @@ use Rattle.flash.specs.declared.sequence.Place.{Place as ChipPlace}
 use Rattle.flash.specs.declared.sequence.Place.TheVariants.{Start, Second, Command, Data, EraseStart, EraseSecond, EraseBlock}
 use Rattle.flash.specs.declared.sequence.Decision.{Decision}
 use Rattle.flash.specs.declared.sequence.Decision.TheVariants.{Next, Enter, Program, Erase}
+use Rattle.flash.specs.Limits.{window, longest_program, longest_erase}
 use Rattle.flash.specs.Sequences.{decided}
 use Rattle.chip.specs.declared.state.Phase.{Phase}
 use Rattle.chip.specs.declared.state.Phase.TheVariants.{Window, Erasing as Begun}
@@ -32,8 +34,7 @@ use Rattle.part.specs.Meaning as meanings
 use Rattle.driver.specs.Rig.{Job, Doing, resting, programming, erasing, stopping, start, does, inside, LiesIn, meaning, program_time, erase_time}
 use Rattle.driver.specs.Cycles.{Burnable, Heeds, Writes}
 use Rattle.tc58.specs.Rigs.{marks, sheet_of, place_of, left_of, with_job, doing_of, rig_of}
-use Rattle.tc58.specs.ProofOfSound.{mark_at}
-use Rattle.tc58.proofs.Jobs.{good_job, ready_is, names_is, erases_is, holds_is, fails_is}
+use Rattle.tc58.proofs.Jobs.{good_job, ready_is, identifies_is, erases_is, holds_is, fails_is}
 use Rattle.tc58.proofs.OneBlock.{erase_time_one}
 
 -- inside the chip, for it and for its driver
@@ -41,6 +42,17 @@ pub inside_is : (f : Flash) (a : ℕ) → inside (sheet_of f.setup.kind) a ≡ f
 inside_is f a = ap (ltb a) (every_total f.setup.kind)
 
 -- The marks of the blocks that there are.
+mark_at : (from n : ℕ) (set : BlockSet) (b : ℕ) → get_or (marks from n set) b false ≡ (ltb b n && has set (from + b))
+mark_at from zero set b = ap (λ (t : Bool). t && has set (from + b)) (sym (le-ltb b 0 (omega arith)))
+mark_at from (suc n) set zero =
+    let e : from + 0 ≡ from = omega arith in
+    let t : ltb 0 (suc n) ≡ true = lt-ltb 0 (suc n) (omega arith) in
+    rw (e, t)
+mark_at from (suc n) set (suc b) =
+    let e : from + 1 + b ≡ from + suc b = omega arith in
+    let t : ltb (suc b) (suc n) ≡ ltb b n = grind (arith, nat_tests) in
+    mark_at (from + 1) n set b ∙ ap (λ (k : ℕ). ltb b n && has set k) e ∙ ap (λ (u : Bool). u && has set (from + suc b)) (sym t)
+
 pub mark_is : (f : Flash) (set : BlockSet) (b : ℕ) → b < length (blocks f) → get_or (marks 0 (length (blocks f)) set) b false ≡ has set b
 mark_is f set b l =
     let z : 0 + b ≡ b = omega arith in
@@ -69,10 +81,10 @@ pub time_is : (f : Flash) (a byte : ℕ) → Burnable (rig_of f) a byte → writ
 time_is f a byte k =
     let c = clear f a byte k in
     cond-false (protected f a) _ _ c.unprotected
-    ∙ ap (λ (t : Bool). cond (worn f a || t) 300 f.setup.program) c.clears ∙ by (worn f a)
-    ∙ ap (λ (t : Bool). cond t 300 f.setup.program) (sym (worn_is f a k.within))
+    ∙ ap (λ (t : Bool). cond (worn f a || t) longest_program f.setup.program) c.clears ∙ by (worn f a)
+    ∙ ap (λ (t : Bool). cond t longest_program f.setup.program) (sym (worn_is f a k.within))
   where
-    by : (t : Bool) → cond (t || false) 300 f.setup.program ≡ cond t 300 f.setup.program
+    by : (t : Bool) → cond (t || false) longest_program f.setup.program ≡ cond t longest_program f.setup.program
     by true = refl
     by false = refl
 
@@ -113,23 +125,23 @@ module _ (f : Flash) where
   interrupts e a Begun = refl
 
   -- the erase of a block that begins
-  begun : ℕ → ChipErase
-  begun a = record { phase = Window; selected = only (block_of (blocks f) a); left = 50; toggle = false }
+  abbrev begun : ℕ → ChipErase
+  begun a = record { phase = Window; selected = only (block_of (blocks f) a); left = window; toggle = false }
 
   begins : (a b : ℕ) → LiesIn (sheet_of f.setup.kind) a b → guarded (meaning (rig_of f)) b ≡ false
-      → doing_of f (Erasing (record { phase = Window; selected = only (block_of (blocks f) a); left = 50; toggle = false }))
+      → doing_of f (Erasing (begun a))
       ≡ erasing (record { block = b; left = erase_time (rig_of f) b; toggle = false })
   begins a b at g =
-      let e : ChipErase = record { phase = Window; selected = only (block_of (blocks f) a); left = 50; toggle = false } in
+      let e : ChipErase = begun a in
       let within : b < length (blocks f) = subst (λ (x : ℕ). x < length (blocks f)) at.1 (in_a_block f a at.0) in
-      let few : b < 128 = omega (arith, within, every_few f.setup.kind) in
+      let few : b < largest_set = omega (arith, within, every_few f.setup.kind) in
       let open_block : has f.setup.protected b ≡ false = sym (mark_is f f.setup.protected b within) ∙ g in
       let mask : e.selected.mask ≡ 2 ^ b =
-      ap (λ (x : ℕ). (only x).mask) at.1 ∙ cond-true (ltb b 128) (2 ^ b) 0 (lt-ltb b 128 few) in
+      ap (λ (x : ℕ). (only x).mask) at.1 ∙ cond-true (ltb b largest_set) (2 ^ b) 0 (lt-ltb b largest_set few) in
       let j = good_job f e b (record { within = within; unprotected = open_block; selected = mask; lasts = lit≤ tt }) in
       let left : left_of f e Window ≡ erase_time (rig_of f) b =
-      ap (λ (n : ℕ). 50 + n) (erase_time_one f e.selected b mask open_block)
-      ∙ ap (λ (t : Bool). 50 + cond t 10000000 f.setup.erase) (sym (mark_is f f.setup.worn b within)) in
+      ap (λ (n : ℕ). window + n) (erase_time_one f e.selected b mask open_block)
+      ∙ ap (λ (t : Bool). window + cond t longest_erase f.setup.erase) (sym (mark_is f f.setup.worn b within)) in
       ap (with_job erasing) j ∙ ap (λ (n : ℕ). erasing (record { block = b; left = n; toggle = false })) left
 
   pub heeds_in : (a byte : ℕ) → inside (sheet_of f.setup.kind) a ≡ true
@@ -142,7 +154,7 @@ module _ (f : Flash) where
         unlocks = λ b l is e. to _ (by_byte s a byte 0xAA _ is.1 (step s Start a 0xAA c.first (Next Second) e (at_first a is.0) (rw (same c.first) refl)));
         has_unlocked = λ b l is e. to _ (by_byte s a byte 0x55 _ is.1 (step s Second a 0x55 c.second (Next Command) e (at_second a is.0) (rw (same c.second) refl)));
         identifies = λ b l is e. to _ (by_byte s a byte 0x90 _ is.1 (step s Command a 0x90 c.first (Enter Id) e (at_first a is.0) (rw (same c.first) refl)));
-        back = λ zone here is e. to _ (by_byte s a byte 0xF0 _ is (ap (λ (x : State). doing_of f (heeded f x a 0xF0)) (names_is f s zone e)));
+        back = λ zone here is e. to _ (by_byte s a byte 0xF0 _ is (ap (λ (x : State). doing_of f (heeded f x a 0xF0)) (identifies_is f s zone e)));
         sets_up = λ b l is e. to _ (by_byte s a byte 0xA0 _ is.1 (step s Command a 0xA0 c.first (Next Data) e (at_first a is.0) (rw (same c.first) refl)));
         programs = λ k e.
             to _ (step s Data a byte (low_bits c a) Program e refl refl

@@ -1,12 +1,10 @@
 -- Proof text: the addresses that belong to a block lie where they should, and a chip is sound as a rig. It stands here since the impls of the driver's
 -- traits need it for their laws.
-use Rattle.std.specs.Prelude.{◌≡◌, ℕ, zero, suc, ◌+◌, ◌^◌, ◌<◌, Bool, true, false, ◌&&◌, length, ◌==◌, nat_le, nat_lt, slice_index, slice_index_or, refl}
-use Rattle.std.proofs.Common.{sym, ap, ◌∙◌, arith, ltb}
-use Rattle.std.proofs.lemmas.Bool.{and_parts, eqb-true, leb-true, lt-ltb, le-ltb}
-use Rattle.std.proofs.lemmas.Bool.Decides.{nat_tests}
+use Rattle.std.specs.Prelude.{◌≡◌, ℕ, zero, suc, ◌+◌, ◌^◌, ◌<◌, Bool, true, ◌&&◌, length, ◌==◌, nat_lt, slice_index, refl}
+use Rattle.std.proofs.Common.{sym, ap, ◌∙◌, arith}
+use Rattle.std.proofs.lemmas.Bool.{and_parts, eqb-true, ltb-true}
 use Rattle.geometry.specs.declared.set.BlockSet.{BlockSet}
 use Rattle.geometry.specs.Blocks.{start_of, block_of}
-use Rattle.geometry.specs.Sets.{has}
 use Rattle.geometry.specs.Plans.{Plan, plan_of}
 use Rattle.geometry.proofs.Bitwise.{below, at_below}
 use Rattle.geometry.proofs.Placing.{every_plan, every_contiguous, every_total, every_few, table_start}
@@ -34,7 +32,7 @@ placed p b =
 all_placed : (kind b : ℕ) → b < length (plan_of kind).sizes → placed (plan_of kind) b ≡ true
 all_placed = every_plan_block placed (λ kind. every_plan (λ (p : Plan). below (length p.sizes) (placed p)) refl kind)
 
-pub start_is : (kind b : ℕ) → b < length (plan_of kind).sizes → slice_index (plan_of kind).starts b ≡ start_of (plan_of kind).sizes b
+start_is : (kind b : ℕ) → b < length (plan_of kind).sizes → slice_index (plan_of kind).starts b ≡ start_of (plan_of kind).sizes b
 start_is kind b l =
     omega (arith, table_start 0 (plan_of kind).starts (plan_of kind).sizes (plan_of kind).size (every_contiguous kind) b l)
 
@@ -76,21 +74,9 @@ addressed kind b l =
       );
     }
 
--- The marks of blocks.
-pub length_marks : (from n : ℕ) (set : BlockSet) → length (marks from n set) ≡ n
+length_marks : (from n : ℕ) (set : BlockSet) → length (marks from n set) ≡ n
 length_marks from zero set = refl
 length_marks from (suc n) set = ap suc (length_marks (from + 1) n set)
-
-pub mark_at : (from n : ℕ) (set : BlockSet) (b : ℕ) → slice_index_or (marks from n set) b false ≡ (nat_lt b n && has set (from + b))
-mark_at from zero set b = ap (λ (t : Bool). t && has set (from + b)) (sym (le-ltb b 0 (omega arith)))
-mark_at from (suc n) set zero =
-    let e : from + 0 ≡ from = omega arith in
-    let t : ltb 0 (suc n) ≡ true = lt-ltb 0 (suc n) (omega arith) in
-    rw (e, t)
-mark_at from (suc n) set (suc b) =
-    let e : from + 1 + b ≡ from + suc b = omega arith in
-    let t : ltb (suc b) (suc n) ≡ ltb b n = grind (arith, nat_tests) in
-    mark_at (from + 1) n set b ∙ ap (λ (k : ℕ). nat_lt b n && has set k) e ∙ ap (λ (u : Bool). u && has set (from + suc b)) (sym t)
 
 pub sound : (c : Chip) → Sound (rig_of (view c))
 sound c =
@@ -100,7 +86,7 @@ sound c =
     let n : ℕ = length (blocks f) in
     record {
       whole = every_total f.setup.kind ∙ sym s.whole;
-      small = omega (arith, s.whole, leb-true _ _ (every_plan (λ (p : Plan). nat_le p.size 16777216) refl f.setup.kind));
+      small = omega (arith, s.whole, ltb-true _ _ (every_plan (λ (p : Plan). nat_lt p.size 4294967296) refl f.setup.kind));
       few = every_few f.setup.kind;
       guards = length_marks 0 n f.setup.protected;
       wears = length_marks 0 n f.setup.worn;

@@ -13,7 +13,7 @@ use Rattle.chip.specs.declared.state.State.{State}
 use Rattle.chip.specs.declared.state.State.TheVariants.{Ready, Programming, Erasing, Suspending, Suspended, Failed}
 use Rattle.chip.specs.Flash.{Flash, blocks}
 use Rattle.chip.specs.Times.{erase_time}
-use Rattle.driver.specs.Rig.{Sheet, Job, Place, Doing, resting, naming, programming, erasing, stopping, failed, other, start, first_unlock, unlocked, program_setup, erase_setup, erase_first_unlock, erase_unlocked, Rig}
+use Rattle.driver.specs.Rig.{Sheet, Job, Place, Doing, resting, identifying, programming, erasing, stopping, failed, other, start, first_unlock, unlocked, program_setup, erase_setup, erase_first_unlock, erase_unlocked, Rig}
 
 -- for each of n blocks from block `from` on, whether it is in the set
 abbrev pub marks : ℕ → ℕ → BlockSet → List Bool
@@ -70,7 +70,7 @@ with_job what None = other
 
 abbrev pub doing_of : Flash → State → Doing
 doing_of f (Ready Read place) = resting None (place_of place)
-doing_of f (Ready Id Start) = naming 0
+doing_of f (Ready Id Start) = identifying 0
 doing_of f (Ready Id place) = other
 doing_of f (Programming p) = programming (record { address = p.address; byte = p.byte; left = p.left; toggle = p.toggle }) None
 doing_of f (Erasing e) = with_job erasing (job_of f e)

@@ -1,6 +1,6 @@
 use Rattle.std.proofs.Common.{◌<◌, sym, ap, ◌∙◌, arith}
 use Rattle.geometry.specs.declared.set.BlockSet.{BlockSet}
-use Rattle.geometry.specs.Sets.{has, union}
+use Rattle.geometry.specs.Sets.{largest_set, has, union}
 use Rattle.part.specs.Meaning.{guarded}
 use Rattle.driver.specs.Rig.{Rig, meaning}
 use Rattle.driver.proofs.Changing.{does_more}
@@ -17,7 +17,7 @@ loop-block-preserved g c =
     let i = c.loop-block.block in
     let set = c.loop-block.guards in
     let sound = g.met.B.Bus.sound c.args.bus.now in
-    let few : i < 128 = omega (arith, sound.few, c.loop-block-test.true, c.count-block-end.ensures) in (
+    let few : i < largest_set = omega (arith, sound.few, c.loop-block-test.true, c.count-block-end.ensures) in (
       does_more r h s h.doing s.doing c.loop-block.invariant.0 c.ask.ensures.only,
       λ e.
           let inv = c.loop-block.invariant.1 e in

@@ -1,7 +1,7 @@
 use Rattle.std.proofs.Common.{◌≡◌, ℕ, ◌-◌, refl, sym, ap, ◌∙◌, arith}
 use Rattle.driver.specs.Rig.{stopping, later}
-use Rattle.driver.proofs.Changing.{later_none, same_more}
-use Rattle.driver.proofs.Halting.{turned_after, twice_same, if_not_yet, if_at_last}
+use Rattle.driver.proofs.Changing.{later_none}
+use Rattle.driver.proofs.Halting.{turned_more, if_not_yet, if_at_last}
 use Rattle.driver.proofs.suspend.settle.Goals as goal
 
 pub loop-turn-init : goal.loop-turn-init
@@ -18,23 +18,14 @@ loop-turn-init g c =
 
 pub returns-then-still : goal.returns-then-still
 returns-then-still g c =
-    let r = g.B.Bus.rig c.args.bus.now in
-    let h = g.B.Bus.rig c.loop-turn.bus in
-    let s = g.B.Bus.rig c.still.new.bus in
-    record {
-      same = same_more r h s c.loop-turn.invariant.0 (twice_same h s c.args.address c.still.result c.still.ensures);
-      settled = λ j own e.
-          if_at_last (turned_after r c.args.address j own c.loop-turn._turn h (c.loop-turn.invariant.1 j own e) c.still.result s c.still.ensures)
-          c.if-still.true;
-    }
+    let rig = g.B.Bus.rig in
+    let p = turned_more (rig c.args.bus.now) c.args.address c.loop-turn._turn (rig c.loop-turn.bus) c.loop-turn.invariant c.still.result (rig c.still.new.bus)
+    c.still.ensures in
+    record { same = p.0; settled = λ j own e. if_at_last (p.1 j own e) c.if-still.true }
 
 pub loop-turn-preserved : goal.loop-turn-preserved
 loop-turn-preserved g c =
-    let r = g.B.Bus.rig c.args.bus.now in
-    let h = g.B.Bus.rig c.loop-turn.bus in
-    let s = g.B.Bus.rig c.still.new.bus in (
-      same_more r h s c.loop-turn.invariant.0 (twice_same h s c.args.address c.still.result c.still.ensures),
-      λ j own e.
-          if_not_yet (turned_after r c.args.address j own c.loop-turn._turn h (c.loop-turn.invariant.1 j own e) c.still.result s c.still.ensures)
-          c.if-still.false,
-    )
+    let rig = g.B.Bus.rig in
+    let p = turned_more (rig c.args.bus.now) c.args.address c.loop-turn._turn (rig c.loop-turn.bus) c.loop-turn.invariant c.still.result (rig c.still.new.bus)
+    c.still.ensures in
+    (p.0, λ j own e. if_not_yet (p.1 j own e) c.if-still.false)
