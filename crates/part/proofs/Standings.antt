@@ -1,5 +1,6 @@
--- What a part tells at a glance of its erasure is so of the erasure, and what follows from what an erasure hides and bars. What stands above the
--- makes of parts uses these laws, and not the text of `hides` and `bars`; the makes and the joined part go by that text too.
+-- What a part tells at a glance of its erasure is so of the erasure, and what follows from what an erasure hides and bars. What stands above uses
+-- these laws, and not the text of the rules, but for two: the joined part, whose rules about its two sides follow from that text, and the driver,
+-- which burns only where the chip is at rest.
 use Rattle.std.proofs.Common.{◌≡◌, ℕ, Bool, true, false, cond, eqb, List, Some, None, Option, is_some, refl, ap, ◌∙◌}
 use Rattle.std.proofs.lemmas.Bool.{true≢false}
 use Rattle.part.specs.declared.answers.Standing.TheVariants.{Running, Suspended}
