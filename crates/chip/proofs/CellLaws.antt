@@ -10,7 +10,7 @@ use Rattle.chip.specs.declared.state.Program.{Program}
 use Rattle.chip.specs.declared.state.Erase.{Erase}
 use Rattle.chip.specs.declared.state.State.{State}
 use Rattle.chip.specs.declared.state.State.TheVariants.{Ready, Programming, Erasing, Suspending, Suspended, Failed}
-use Rattle.chip.specs.Flash.{Flash, ground_of, cell, protected, worn}
+use Rattle.chip.specs.Flash.{Flash, block_map_of, cell, protected, worn}
 use Rattle.chip.specs.Times.{programmed, erased, ended, due, lowered, step_by, tick, passed}
 use Rattle.chip.specs.Resets.{broken_erase, broken, after_reset}
 use Rattle.chip.specs.Laws.{Sound, KeepsBlocks, OnlyClears, in_erase}
@@ -21,11 +21,11 @@ Fixed f a = (protected f a || worn f a) ≡ true
 
 erased_keeps : (f : Flash) (e : Erase) (phase : Phase) (a : ℕ) → Fixed f a → cell (erased f e phase) a ≡ cell f a
 erased_keeps f e Window a x = refl
-erased_keeps f e Begun a x = erase_keeps (ground_of f) e.selected f.cells a x
+erased_keeps f e Begun a x = erase_keeps (block_map_of f) e.selected f.cells a x
 
 ended_keeps : (f : Flash) (s : State) (a : ℕ) → Fixed f a → cell (ended f s) a ≡ cell f a
 ended_keeps f (Ready m p) a x = refl
-ended_keeps f (Programming p) a x = program_keeps (ground_of f) f.cells p.address p.byte a x
+ended_keeps f (Programming p) a x = program_keeps (block_map_of f) f.cells p.address p.byte a x
 ended_keeps f (Erasing e) a x = erased_keeps f e e.phase a x
 ended_keeps f (Suspending e w) a x = refl
 ended_keeps f (Suspended e) a x = refl
@@ -42,12 +42,12 @@ Like f g = (g.setup ≡ f.setup) × (length g.cells ≡ length f.cells)
 
 ended_like : (f : Flash) (s : State) → Like f (ended f s)
 ended_like f (Ready m p) = (refl, refl)
-ended_like f (Programming p) = (refl, length_after_program (ground_of f) f.cells p.address p.byte)
+ended_like f (Programming p) = (refl, length_after_program (block_map_of f) f.cells p.address p.byte)
 ended_like f (Erasing e) = by e.phase
   where
     by : (p : Phase) → Like f (erased f e p)
     by Window = (refl, refl)
-    by Begun = (refl, length_after_erase (ground_of f) e.selected f.cells)
+    by Begun = (refl, length_after_erase (block_map_of f) e.selected f.cells)
 ended_like f (Suspending e w) = (refl, refl)
 ended_like f (Suspended e) = (refl, refl)
 ended_like f (Failed b t) = (refl, refl)
@@ -80,11 +80,11 @@ passed_keeps (suc n) f s a i x =
 
 broken_erase_keep : (f : Flash) (e : Erase) (phase : Phase) (a : ℕ) → Fixed f a → get_or (broken_erase f e phase) a 0 ≡ cell f a
 broken_erase_keep f e Window a x = refl
-broken_erase_keep f e Begun a x = broken_erase_keeps (ground_of f) e.selected f.cells a x
+broken_erase_keep f e Begun a x = broken_erase_keeps (block_map_of f) e.selected f.cells a x
 
 broken_keeps : (f : Flash) (s : State) (a : ℕ) → Fixed f a → get_or (broken f s) a 0 ≡ cell f a
 broken_keeps f (Ready m p) a x = refl
-broken_keeps f (Programming p) a x = program_keeps (ground_of f) f.cells p.address p.byte a x
+broken_keeps f (Programming p) a x = program_keeps (block_map_of f) f.cells p.address p.byte a x
 broken_keeps f (Erasing e) a x = broken_erase_keep f e e.phase a x
 broken_keeps f (Suspending e w) a x = broken_erase_keep f e e.phase a x
 broken_keeps f (Suspended e) a x = broken_erase_keep f e e.phase a x
@@ -101,8 +101,8 @@ Clears f g = (in_erase g.state ≡ false) × ((a b : ℕ) → bit (cell g a) b �
 programmed_clears : (f : Flash) (p : Program) → Clears f (programmed f p)
 unfolding Clears
 programmed_clears f p = (
-  cond_both (program_fails (ground_of f) f.cells p.address p.byte) _ _ (λ (s : State). in_erase s ≡ false) (λ _. refl) (λ _. refl),
-  program_clears (ground_of f) f.cells p.address p.byte,
+  cond_both (program_fails (block_map_of f) f.cells p.address p.byte) _ _ (λ (s : State). in_erase s ≡ false) (λ _. refl) (λ _. refl),
+  program_clears (block_map_of f) f.cells p.address p.byte,
 )
 
 step_clears : (f : Flash) (s : State) → f.state ≡ s → in_erase s ≡ false → Clears f (step_by f (due s))
@@ -128,7 +128,7 @@ passed_clears (suc n) f e a b t =
 pub reset_own_cell : (f : Flash) (p : Program) → f.state ≡ Programming p → (a : ℕ) → (a ≡ p.address → ⊥) → cell (after_reset f) a ≡ cell f a
 unfolding after_reset
 reset_own_cell f p s a o =
-    ap (λ (x : State). get_or (broken f x) a 0) s ∙ program_other (ground_of f) f.cells p.address p.byte a o
+    ap (λ (x : State). get_or (broken f x) a 0) s ∙ program_other (block_map_of f) f.cells p.address p.byte a o
 
 pub reset_never_sets : (f : Flash) (a b : ℕ) → bit (cell (after_reset f) a) b ≡ true → bit (cell f a) b ≡ true
 unfolding after_reset
@@ -136,11 +136,11 @@ reset_never_sets f a b t = by f.state t
   where
     by_phase : (e : Erase) (p : Phase) → bit (get_or (broken_erase f e p) a 0) b ≡ true → bit (cell f a) b ≡ true
     by_phase e Window t = t
-    by_phase e Begun t = broken_erase_clears (ground_of f) e.selected f.cells a b t
+    by_phase e Begun t = broken_erase_clears (block_map_of f) e.selected f.cells a b t
 
     by : (s : State) → bit (get_or (broken f s) a 0) b ≡ true → bit (cell f a) b ≡ true
     by (Ready m p) t = t
-    by (Programming p) t = program_clears (ground_of f) f.cells p.address p.byte a b t
+    by (Programming p) t = program_clears (block_map_of f) f.cells p.address p.byte a b t
     by (Erasing e) t = by_phase e e.phase t
     by (Suspending e w) t = by_phase e e.phase t
     by (Suspended e) t = by_phase e e.phase t

@@ -17,7 +17,7 @@ use Rattle.chip.specs.declared.state.Program.{Program}
 use Rattle.chip.specs.declared.state.Erase.{Erase}
 use Rattle.chip.specs.declared.state.State.{State}
 use Rattle.chip.specs.declared.state.State.TheVariants.{Programming, Suspending, Suspended, Failed}
-use Rattle.chip.specs.Flash.{Flash, ground_of, blocks, inside, cell, lies_in, erasable}
+use Rattle.chip.specs.Flash.{Flash, block_map_of, blocks, inside, cell, lies_in, erasable}
 use Rattle.chip.specs.Writes.{read_mode}
 use Rattle.chip.specs.Times.{programmed, spoils, erase_time, erased, ended, due, lowered, step_by, tick, passed}
 use Rattle.chip.specs.Laws.{Sound, Holds, stopping, stopped, Works, Begins, Erased, StillErasing}
@@ -27,7 +27,7 @@ use Rattle.chip.proofs.Passing.{Same, passed_until, passed_over, rests}
 -- A program has its own cell, and no other.
 programmed_due : (f : Flash) (p : Program) → due (programmed f p).state ≡ None
 programmed_due f p =
-    cond_both (program_fails (ground_of f) f.cells p.address p.byte) _ _ (λ (s : State). due s ≡ None) (λ _. refl) (λ _. refl)
+    cond_both (program_fails (block_map_of f) f.cells p.address p.byte) _ _ (λ (s : State). due s ≡ None) (λ _. refl) (λ _. refl)
 
 pub own_cell : (n : ℕ) (f : Flash) (p : Program) → f.state ≡ Programming p → (a : ℕ) → (a ≡ p.address → ⊥) → cell (passed n f) a ≡ cell f a
 own_cell n f p s a o =
@@ -40,7 +40,7 @@ own_cell n f p s a o =
           let is : ended f f.state ≡ programmed f p = ap (ended f) s in
           let idle : due (passed d f).state ≡ None = ap due (end.state ∙ ap (λ (x : Flash). x.state) is) ∙ programmed_due f p in
           ap (λ (xs : List ℕ). get_or xs a 0) ((rests d n f h idle).cells ∙ end.cells ∙ ap (λ (x : Flash). x.cells) is)
-          ∙ program_other (ground_of f) f.cells p.address p.byte a o
+          ∙ program_other (block_map_of f) f.cells p.address p.byte a o
     ]
 
 -- What a suspension holds stands still, microsecond by microsecond.
@@ -176,7 +176,7 @@ fails f e b m =
     let h : 1 ≤ t = omega arith in
     subst
     (λ (t : ℕ). ((n : ℕ) → n < t → StillErasing f e n (passed n f)) × ((passed t f).state ≡ Failed 0xFF e.toggle)
-        × ((n : ℕ) → (passed n f).cells ≡ f.cells))
+    × ((n : ℕ) → (passed n f).cells ≡ f.cells))
     (b.whole ∙ q) (ends_failed f e (begun_works f e t b q h) m)
 
 pub refuses : (f : Flash) (e : Erase) → Begins f e → count_of (erasable f e.selected) ≡ 0

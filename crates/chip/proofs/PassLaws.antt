@@ -8,7 +8,7 @@ use Rattle.chip.specs.declared.state.Erase.{Erase}
 use Rattle.chip.specs.declared.state.State.{State}
 use Rattle.chip.specs.declared.state.State.TheVariants.{Ready, Programming, Erasing, Suspending, Suspended, Failed}
 use Rattle.flash.specs.Programs.{program_fails}
-use Rattle.chip.specs.Flash.{Flash, ground_of}
+use Rattle.chip.specs.Flash.{Flash, block_map_of}
 use Rattle.chip.specs.Writes.{read_mode}
 use Rattle.chip.specs.Times.{programmed, spoils, erased, ended, due, lowered, step_by, tick, passed}
 use Rattle.chip.specs.Resets.{after_reset}
@@ -25,7 +25,7 @@ data Course : State → Type 0 where
 
 programmed_course : (f : Flash) (p : Program) → Course (programmed f p).state
 programmed_course f p =
-    cond_both (program_fails (ground_of f) f.cells p.address p.byte) _ _ Course (λ _. failed refl) (λ _. ready)
+    cond_both (program_fails (block_map_of f) f.cells p.address p.byte) _ _ Course (λ _. failed refl) (λ _. ready)
 
 erased_course : (f : Flash) (e : Erase) (p : Phase) → Course (erased f e p).state
 erased_course f e Window = works refl

@@ -8,7 +8,7 @@ use Rattle.chip.specs.declared.state.Phase.TheVariants.{Window, Erasing as Begun
 use Rattle.chip.specs.declared.state.Erase.{Erase}
 use Rattle.chip.specs.declared.state.State.{State}
 use Rattle.chip.specs.declared.state.State.TheVariants.{Ready, Programming, Erasing, Suspending, Suspended, Failed}
-use Rattle.chip.specs.Flash.{Flash, ground_of, inside, cell, protected, worn}
+use Rattle.chip.specs.Flash.{Flash, block_map_of, inside, cell, protected, worn}
 use Rattle.chip.specs.Writes.{heeded, written}
 use Rattle.chip.specs.Reads.{flipped, seen}
 use Rattle.chip.specs.Times.{tick, passed, after}
@@ -49,11 +49,11 @@ broken_long f s = by s
   where
     by_phase : (e : Erase) (p : Phase) → length (broken_erase f e p) ≡ length f.cells
     by_phase e Window = refl
-    by_phase e Begun = length_after_broken_erase (ground_of f) e.selected f.cells
+    by_phase e Begun = length_after_broken_erase (block_map_of f) e.selected f.cells
 
     by : (s : State) → length (broken f s) ≡ length f.cells
     by (Ready m p) = refl
-    by (Programming p) = length_after_program (ground_of f) f.cells p.address p.byte
+    by (Programming p) = length_after_program (block_map_of f) f.cells p.address p.byte
     by (Erasing e) = by_phase e e.phase
     by (Suspending e w) = by_phase e e.phase
     by (Suspended e) = by_phase e e.phase

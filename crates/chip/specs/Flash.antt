@@ -3,8 +3,8 @@ use Rattle.std.specs.Prelude.{ℕ, Bool, List, vec_items, nat_lt, slice_index}
 use Rattle.geometry.specs.declared.datasheet.Commands.{Commands}
 use Rattle.geometry.specs.declared.set.BlockSet.{BlockSet}
 use Rattle.geometry.specs.Plans.{plan_of}
-use Rattle.flash.specs.Grounds as grounds
-use Rattle.flash.specs.Grounds.{Ground}
+use Rattle.flash.specs.BlockMaps as block_maps
+use Rattle.flash.specs.BlockMaps.{BlockMap}
 use Rattle.flash.specs.Erases as erases
 use Rattle.chip.specs.declared.setup.Setup.{Setup}
 use Rattle.chip.specs.declared.state.State.{State}
@@ -38,12 +38,12 @@ abbrev pub cell : Flash → ℕ → ℕ
 cell f a = slice_index f.cells a
 
 -- the blocks that operations on the cells work on
-abbrev pub ground_of : Flash → Ground
-ground_of f = record { sizes = blocks f; protected = f.setup.protected; worn = f.setup.worn }
+abbrev pub block_map_of : Flash → BlockMap
+block_map_of f = record { sizes = blocks f; protected = f.setup.protected; worn = f.setup.worn }
 
 -- the address lies in a block of the set
 abbrev pub lies_in : Flash → BlockSet → ℕ → Bool
-lies_in f set a = grounds.lies_in (ground_of f) set a
+lies_in f set a = block_maps.lies_in (block_map_of f) set a
 
 abbrev pub protected : Flash → ℕ → Bool
 protected f a = lies_in f f.setup.protected a
@@ -53,4 +53,4 @@ worn f a = lies_in f f.setup.worn a
 
 -- the selected blocks that an erase works on: those that are not protected
 abbrev pub erasable : Flash → BlockSet → BlockSet
-erasable f selected = erases.erasable (ground_of f) selected
+erasable f selected = erases.erasable (block_map_of f) selected

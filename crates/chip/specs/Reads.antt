@@ -11,12 +11,12 @@ use Rattle.chip.specs.declared.state.Program.{Program}
 use Rattle.chip.specs.declared.state.Erase.{Erase}
 use Rattle.chip.specs.declared.state.State.{State}
 use Rattle.chip.specs.declared.state.State.TheVariants.{Ready, Programming, Erasing, Suspending, Suspended, Failed}
-use Rattle.chip.specs.Flash.{Flash, ground_of, inside, cell, lies_in}
+use Rattle.chip.specs.Flash.{Flash, block_map_of, inside, cell, lies_in}
 use Rattle.chip.specs.Writes.{at_address}
 
 -- what ID mode answers
 abbrev pub identity : Flash → ℕ → ℕ
-identity f a = identities.identity (sheet_of (plan_of f.setup.kind)) (ground_of f) a
+identity f a = identities.identity (sheet_of (plan_of f.setup.kind)) (block_map_of f) a
 
 abbrev pub begun : Phase → Bool
 begun Window = false

@@ -7,18 +7,18 @@ use Rattle.chip.specs.declared.state.Phase.TheVariants.{Window, Erasing as Begun
 use Rattle.chip.specs.declared.state.Erase.{Erase}
 use Rattle.chip.specs.declared.state.State.{State}
 use Rattle.chip.specs.declared.state.State.TheVariants.{Ready, Programming, Erasing, Suspending, Suspended, Failed}
-use Rattle.chip.specs.Flash.{Flash, ground_of}
+use Rattle.chip.specs.Flash.{Flash, block_map_of}
 use Rattle.chip.specs.Writes.{read_mode}
 
 -- An erasing begun and unfinished leaves 00h throughout its sound unprotected blocks; a window leaves no mark.
 abbrev pub broken_erase : Flash → Erase → Phase → List ℕ
 broken_erase f e Window = f.cells
-broken_erase f e Begun = after_broken_erase (ground_of f) e.selected f.cells
+broken_erase f e Begun = after_broken_erase (block_map_of f) e.selected f.cells
 
 -- An unfinished program in a sound unprotected block leaves cell AND byte.
 abbrev pub broken : Flash → State → List ℕ
 broken f (Ready mode place) = f.cells
-broken f (Programming p) = after_program (ground_of f) f.cells p.address p.byte
+broken f (Programming p) = after_program (block_map_of f) f.cells p.address p.byte
 broken f (Erasing e) = broken_erase f e e.phase
 broken f (Suspending e wait) = broken_erase f e e.phase
 broken f (Suspended e) = broken_erase f e e.phase

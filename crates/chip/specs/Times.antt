@@ -12,29 +12,29 @@ use Rattle.chip.specs.declared.state.Program.{Program}
 use Rattle.chip.specs.declared.state.Erase.{Erase}
 use Rattle.chip.specs.declared.state.State.{State}
 use Rattle.chip.specs.declared.state.State.TheVariants.{Ready, Programming, Erasing, Suspending, Suspended, Failed}
-use Rattle.chip.specs.Flash.{Flash, ground_of}
+use Rattle.chip.specs.Flash.{Flash, block_map_of}
 use Rattle.chip.specs.Writes.{read_mode}
 
 -- The end of a program.
 abbrev pub programmed : Flash → Program → Flash
 programmed f p = record f {
-  cells = after_program (ground_of f) f.cells p.address p.byte;
-  state = if program_fails (ground_of f) f.cells p.address p.byte then Failed p.byte p.toggle else read_mode;
+  cells = after_program (block_map_of f) f.cells p.address p.byte;
+  state = if program_fails (block_map_of f) f.cells p.address p.byte then Failed p.byte p.toggle else read_mode;
 }
 
 -- Whether one of the blocks that an erase works on is worn.
 abbrev pub spoils : Flash → BlockSet → Bool
-spoils f selected = erases.spoils (ground_of f) selected
+spoils f selected = erases.spoils (block_map_of f) selected
 
 -- How long the erasing lasts, by the number of blocks that it works on.
 abbrev pub erase_time : Flash → BlockSet → ℕ
-erase_time f selected = erases.erase_time (ground_of f) f.setup.erase selected
+erase_time f selected = erases.erase_time (block_map_of f) f.setup.erase selected
 
 -- The end of a phase: the erasing follows the window; the blocks become FFh throughout, or the chip fails.
 abbrev pub erased : Flash → Erase → Phase → Flash
 erased f e Window = record f { state = Erasing (record e { phase = Begun; left = erase_time f e.selected }) }
 erased f e Begun = record f {
-  cells = erases.after_erase (ground_of f) e.selected f.cells;
+  cells = erases.after_erase (block_map_of f) e.selected f.cells;
   state = if spoils f e.selected then Failed 0xFF e.toggle else read_mode;
 }
 

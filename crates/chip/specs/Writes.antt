@@ -11,7 +11,7 @@ use Rattle.flash.specs.declared.sequence.Place.{Place}
 use Rattle.flash.specs.declared.sequence.Place.TheVariants.{Start}
 use Rattle.flash.specs.declared.sequence.Decision.{Decision}
 use Rattle.flash.specs.declared.sequence.Decision.TheVariants.{Next, Enter, Program, Erase, GiveUp}
-use Rattle.flash.specs.Grounds as grounds
+use Rattle.flash.specs.BlockMaps as block_maps
 use Rattle.flash.specs.Limits as limits
 use Rattle.flash.specs.Programs as programs
 use Rattle.flash.specs.Sequences.{decided}
@@ -20,7 +20,7 @@ use Rattle.chip.specs.declared.state.Phase.TheVariants.{Window, Erasing as Begun
 use Rattle.chip.specs.declared.state.Erase.{Erase as Erasure}
 use Rattle.chip.specs.declared.state.State.{State}
 use Rattle.chip.specs.declared.state.State.TheVariants.{Ready, Programming, Erasing, Suspending, Suspended, Failed}
-use Rattle.chip.specs.Flash.{Flash, ground_of, commands, inside}
+use Rattle.chip.specs.Flash.{Flash, block_map_of, commands, inside}
 
 -- read mode, with no sequence begun
 abbrev pub read_mode : State
@@ -28,11 +28,11 @@ read_mode = Ready Read Start
 
 -- how long the chip is busy with a byte
 abbrev pub program_time : Flash → ℕ → ℕ → ℕ
-program_time f a byte = programs.program_time (ground_of f) f.setup.program f.cells a byte
+program_time f a byte = programs.program_time (block_map_of f) f.setup.program f.cells a byte
 
 -- the block that an address lies in, as a set
 abbrev pub block_alone : Flash → ℕ → BlockSet
-block_alone f a = grounds.block_alone (ground_of f) a
+block_alone f a = block_maps.block_alone (block_map_of f) a
 
 -- what a write means at a place of a sequence
 abbrev pub decision : Flash → Place → ℕ → ℕ → Decision

@@ -1,19 +1,19 @@
 // What a chip knows of the block that an address lies in.
 ghost use Rattle.std.specs.Prelude.{◌≡◌};
-ghost use Rattle.flash.specs.Grounds.{ground};
-ghost use Rattle.chip.specs.Flash.{view, ground_of, cell, lies_in};
+ghost use Rattle.flash.specs.BlockMaps.{block_map};
+ghost use Rattle.chip.specs.Flash.{view, block_map_of, cell, lies_in};
 
 use crate::chip::Chip;
-use flash::Ground;
+use flash::BlockMap;
 use geometry::BlockSet;
 
 impl Chip {
     // The blocks that operations on the cells work on.
-    pub(crate) fn ground(&self) -> Ground
-        ensures { ground result ≡ ground_of (view self.now) }
+    pub(crate) fn block_map(&self) -> BlockMap
+        ensures { block_map result ≡ block_map_of (view self.now) }
     {
-        Ground {
-            row: geometry::row(self.setup.kind),
+        BlockMap {
+            table: geometry::block_table(self.setup.kind),
             protected: self.setup.protected,
             worn: self.setup.worn,
         }
@@ -30,6 +30,6 @@ impl Chip {
     pub(crate) fn lies_in(&self, set: BlockSet, address: u32) -> bool
         ensures { result ≡ lies_in (view self.now) set address }
     {
-        self.ground().row.is_in(set, address)
+        self.block_map().table.is_in(set, address)
     }
 }

@@ -43,7 +43,7 @@ impl Chip {
     {
         match self.state {
             State::Ready(Mode::Read, _) => self.cell(address),
-            State::Ready(Mode::Id, _) => identity(self.sheet(), &self.ground(), address),
+            State::Ready(Mode::Id, _) => identity(self.sheet(), &self.block_map(), address),
             State::Programming(p) => status(p.byte, p.toggle, false, false),
             State::Erasing(e) | State::Suspending(e, _) => e.status(),
             State::Suspended(e) if self.lies_in(e.selected, address) => SUSPENDED_STATUS,

@@ -15,8 +15,8 @@ impl Chip {
         ensures { view self.new ≡ record (view self.old) { cells = broken_erase (view self.old) e e.phase } }
     {
         if e.phase == Phase::Erasing {
-            let ground = self.ground();
-            ground.break_erase(self.cells.as_mut_slice(), e.selected);
+            let map = self.block_map();
+            map.break_erase(self.cells.as_mut_slice(), e.selected);
         }
     }
 

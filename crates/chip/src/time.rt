@@ -2,7 +2,7 @@
 ghost use Rattle.std.specs.Prelude.{◌≡◌, ◌+◌, ◌-◌, ◌%◌, max, Some, if◌then◌else◌, is_some, nat_le};
 ghost use Rattle.flash.specs.Programs.{after_program};
 ghost use Rattle.flash.specs.Erases.{after_erase};
-ghost use Rattle.chip.specs.Flash.{view, ground_of};
+ghost use Rattle.chip.specs.Flash.{view, block_map_of};
 ghost use Rattle.chip.specs.Times.{programmed, erase_time, erased, ended, due, within, lowered, steps};
 
 use crate::chip::Chip;
@@ -45,17 +45,17 @@ impl Chip {
     // Does to the cells what a program does.
     #[tactic(auto, using(flash::proofs::Cells::length_after_program))]
     pub(crate) fn program(&mut self, p: Program)
-        ensures { view self.new ≡ record (view self.old) { cells = after_program (ground_of (view self.old)) self.old.cells.items p.address p.byte } }
+        ensures { view self.new ≡ record (view self.old) { cells = after_program (block_map_of (view self.old)) self.old.cells.items p.address p.byte } }
     {
-        let ground = self.ground();
-        ground.program(self.cells.as_mut_slice(), p.address, p.byte);
+        let map = self.block_map();
+        map.program(self.cells.as_mut_slice(), p.address, p.byte);
     }
 
     fn end_program(&mut self, p: Program)
         ensures { view self.new ≡ programmed (view self.old) p }
     {
         let fails = self
-            .ground()
+            .block_map()
             .program_fails(self.cells.as_slice(), p.address, p.byte);
         self.program(p);
         self.state = if fails {
@@ -68,16 +68,16 @@ impl Chip {
     fn erase_time(&self, selected: BlockSet) -> u32
         ensures { result ≡ erase_time (view self.now) selected }
     {
-        self.ground().erase_time(self.setup.erase, selected)
+        self.block_map().erase_time(self.setup.erase, selected)
     }
 
     // Does to the cells what an erase has done at its end.
     #[tactic(auto, using(flash::proofs::Cells::length_after_erase))]
     fn erase(&mut self, selected: BlockSet)
-        ensures { view self.new ≡ record (view self.old) { cells = after_erase (ground_of (view self.old)) selected self.old.cells.items } }
+        ensures { view self.new ≡ record (view self.old) { cells = after_erase (block_map_of (view self.old)) selected self.old.cells.items } }
     {
-        let ground = self.ground();
-        ground.erase(self.cells.as_mut_slice(), selected);
+        let map = self.block_map();
+        map.erase(self.cells.as_mut_slice(), selected);
     }
 
     fn end_erase(&mut self, e: Erase)
@@ -93,7 +93,7 @@ impl Chip {
                 });
             }
             Phase::Erasing => {
-                let fails = self.ground().spoils(e.selected);
+                let fails = self.block_map().spoils(e.selected);
                 self.erase(e.selected);
                 self.state = if fails {
                     State::Failed(ERASED, e.toggle)

@@ -13,7 +13,7 @@ impl Chip {
     fn program_time(&self, address: u32, byte: u8) -> u32
         ensures { result ≡ program_time (view self.now) address byte }
     {
-        self.ground()
+        self.block_map()
             .program_time(self.setup.program, self.cells.as_slice(), address, byte)
     }
 
@@ -21,7 +21,7 @@ impl Chip {
     fn block_alone(&self, address: u32) -> BlockSet
         ensures { result ≡ block_alone (view self.now) address }
     {
-        self.ground().block_alone(address)
+        self.block_map().block_alone(address)
     }
 
     // What a write means at a place of a sequence.

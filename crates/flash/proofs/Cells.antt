@@ -9,26 +9,26 @@ use Rattle.geometry.specs.Sets.{bit, has, without}
 use Rattle.geometry.proofs.Bitwise.{bit_of_and}
 use Rattle.geometry.proofs.Filling.{filled_at, length_filled}
 use Rattle.geometry.proofs.Sets.{has_none, has_without, apart}
-use Rattle.flash.specs.Grounds.{Ground, lies_in, is_protected, is_worn}
+use Rattle.flash.specs.BlockMaps.{BlockMap, lies_in, is_protected, is_worn}
 use Rattle.flash.specs.Programs.{burnt, after_program}
 use Rattle.flash.specs.Erases.{erasable, spoils, after_erase, after_broken_erase}
 
 -- the address lies in a block that is protected or worn
-abbrev pub Fixed : Ground → ℕ → Type 0
+abbrev pub Fixed : BlockMap → ℕ → Type 0
 Fixed g a = (is_protected g a || is_worn g a) ≡ true
 
 -- As many cells as before.
-pub length_after_program : (g : Ground) (cells : List ℕ) (a byte : ℕ) → length (after_program g cells a byte) ≡ length cells
+pub length_after_program : (g : BlockMap) (cells : List ℕ) (a byte : ℕ) → length (after_program g cells a byte) ≡ length cells
 length_after_program g cells a byte =
     cond_both (is_protected g a || is_worn g a) cells (burnt cells a byte) (λ (xs : List ℕ). length xs ≡ length cells)
     (λ _. refl) (λ _. length-set cells a _)
 
-pub length_after_erase : (g : Ground) (selected : BlockSet) (cells : List ℕ) → length (after_erase g selected cells) ≡ length cells
+pub length_after_erase : (g : BlockMap) (selected : BlockSet) (cells : List ℕ) → length (after_erase g selected cells) ≡ length cells
 length_after_erase g selected cells =
     cond_both (spoils g selected) cells (filled g.sizes (erasable g selected) 0xFF cells) (λ (xs : List ℕ). length xs ≡ length cells)
     (λ _. refl) (λ _. length_filled g.sizes (erasable g selected) 0xFF cells)
 
-pub length_after_broken_erase : (g : Ground) (selected : BlockSet) (cells : List ℕ) → length (after_broken_erase g selected cells) ≡ length cells
+pub length_after_broken_erase : (g : BlockMap) (selected : BlockSet) (cells : List ℕ) → length (after_broken_erase g selected cells) ≡ length cells
 length_after_broken_erase g selected cells = length_filled g.sizes (without (erasable g selected) g.worn) 0x00 cells
 
 -- A cell that a change of the cells leaves alone, past the end or not.
@@ -61,20 +61,20 @@ without_less : (set other : BlockSet) (b : ℕ) → has set b ≡ false → has 
 without_less set other b n = has_without set other b ∙ and_left (has set b) (not (has other b)) n
 
 -- A program changes no cell but its own.
-pub program_other : (g : Ground) (cells : List ℕ) (at byte a : ℕ) → (a ≡ at → ⊥) → get_or (after_program g cells at byte) a 0 ≡ get_or cells a 0
+pub program_other : (g : BlockMap) (cells : List ℕ) (at byte a : ℕ) → (a ≡ at → ⊥) → get_or (after_program g cells at byte) a 0 ≡ get_or cells a 0
 program_other g cells at byte a n =
     cond_both (is_protected g at || is_worn g at) cells (burnt cells at byte) (λ (xs : List ℕ). get_or xs a 0 ≡ get_or cells a 0)
     (λ _. refl) (λ _. get_or-set_other cells at a (bit_and (get_or cells at 0) byte) 0 n)
 
 -- Protected and worn blocks keep their cells.
-pub program_keeps : (g : Ground) (cells : List ℕ) (at byte a : ℕ) → Fixed g a → get_or (after_program g cells at byte) a 0 ≡ get_or cells a 0
+pub program_keeps : (g : BlockMap) (cells : List ℕ) (at byte a : ℕ) → Fixed g a → get_or (after_program g cells at byte) a 0 ≡ get_or cells a 0
 program_keeps g cells at byte a x =
     cond_both (is_protected g at || is_worn g at) cells (burnt cells at byte) (λ (xs : List ℕ). get_or xs a 0 ≡ get_or cells a 0)
     (λ _. refl)
     (λ n. get_or-set_other cells at a (bit_and (get_or cells at 0) byte) 0
     (λ e. both_ways _ n (ap (λ (i : ℕ). is_protected g i || is_worn g i) (sym e) ∙ x)))
 
-pub erase_keeps : (g : Ground) (selected : BlockSet) (cells : List ℕ) (a : ℕ) → Fixed g a → get_or (after_erase g selected cells) a 0 ≡ get_or cells a 0
+pub erase_keeps : (g : BlockMap) (selected : BlockSet) (cells : List ℕ) (a : ℕ) → Fixed g a → get_or (after_erase g selected cells) a 0 ≡ get_or cells a 0
 erase_keeps g selected cells a x =
     cond_both (spoils g selected) cells (filled g.sizes (erasable g selected) 0xFF cells) (λ (xs : List ℕ). get_or xs a 0 ≡ get_or cells a 0)
     (λ _. refl) (λ n. spared g.sizes (erasable g selected) 0xFF cells a (out n))
@@ -85,7 +85,7 @@ erase_keeps g selected cells a x =
       | inr t ↦ apart (erasable g selected) g.worn _ n t
     ]
 
-pub broken_erase_keeps : (g : Ground) (selected : BlockSet) (cells : List ℕ) (a : ℕ) → Fixed g a
+pub broken_erase_keeps : (g : BlockMap) (selected : BlockSet) (cells : List ℕ) (a : ℕ) → Fixed g a
     → get_or (after_broken_erase g selected cells) a 0 ≡ get_or cells a 0
 broken_erase_keeps g selected cells a x = spared g.sizes (without (erasable g selected) g.worn) 0x00 cells a out
   where
@@ -99,7 +99,7 @@ broken_erase_keeps g selected cells a x = spared g.sizes (without (erasable g se
 abbrev pub Clears : List ℕ → List ℕ → Type 0
 Clears cells new = (a b : ℕ) → bit (get_or new a 0) b ≡ true → bit (get_or cells a 0) b ≡ true
 
-pub program_clears : (g : Ground) (cells : List ℕ) (at byte : ℕ) → Clears cells (after_program g cells at byte)
+pub program_clears : (g : BlockMap) (cells : List ℕ) (at byte : ℕ) → Clears cells (after_program g cells at byte)
 program_clears g cells at byte a b t =
     elim (cases_eq a at) [
       | inr n ↦ ap (λ (x : ℕ). bit x b) (sym (program_other g cells at byte a n)) ∙ t
@@ -142,5 +142,5 @@ zeros_clear sizes set cells a b t =
         get_or_past (filled sizes set 0x00 cells) a 0 (omega (arith, length_filled sizes set 0x00 cells)) ∙ sym (get_or_past cells a 0 h) in
         ap (λ (x : ℕ). bit x b) (sym e) ∙ t
 
-pub broken_erase_clears : (g : Ground) (selected : BlockSet) (cells : List ℕ) → Clears cells (after_broken_erase g selected cells)
+pub broken_erase_clears : (g : BlockMap) (selected : BlockSet) (cells : List ℕ) → Clears cells (after_broken_erase g selected cells)
 broken_erase_clears g selected cells = zeros_clear g.sizes (without (erasable g selected) g.worn) cells

@@ -1,5 +1,5 @@
 pub mod Erases
-pub mod Grounds
+pub mod BlockMaps
 pub mod Identities
 pub mod Limits
 pub mod Programs

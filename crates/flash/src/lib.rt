@@ -2,15 +2,15 @@
 //! and what a status read and a read in ID mode answer. A family has states of its own, and hands the work on cells to this crate.
 #![tactic(auto)]
 
+mod block_map;
 mod erase;
-mod ground;
 mod limits;
 mod program;
 mod reads;
 mod sequence;
 
+pub use block_map::BlockMap;
 pub use erase::ERASED;
-pub use ground::Ground;
 pub use limits::{
     LONGEST_ERASE, LONGEST_PROGRAM, LONGEST_SUSPENSION, PROTECTED_ERASE, PROTECTED_PROGRAM, WINDOW,
     erase_fits, program_fits, suspend_fits,

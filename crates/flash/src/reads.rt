@@ -1,11 +1,11 @@
 // What a chip answers to a read that does not give a cell: its status, and what ID mode gives.
 ghost use Rattle.std.specs.Prelude.{◌≡◌};
 ghost use Rattle.geometry.specs.Sets.{bit};
-ghost use Rattle.flash.specs.Grounds.{ground};
+ghost use Rattle.flash.specs.BlockMaps.{block_map};
 ghost use Rattle.flash.specs.Identities.{asked, identity};
 ghost use Rattle.flash.specs.Statuses.{status};
 
-use crate::ground::Ground;
+use crate::block_map::BlockMap;
 use geometry::{Choice, Sheet};
 
 /// What a suspended chip answers in a selected block.
@@ -50,8 +50,8 @@ impl Question {
 }
 
 /// What a read in ID mode answers.
-pub fn identity(sheet: Sheet, blocks: &Ground, address: u32) -> u8
-    ensures { result ≡ identity sheet (ground blocks.now) address }
+pub fn identity(sheet: Sheet, blocks: &BlockMap, address: u32) -> u8
+    ensures { result ≡ identity sheet (block_map blocks.now) address }
 {
     match Question::of(sheet.choice, address) {
         Question::Maker => sheet.maker,

@@ -7,7 +7,7 @@ use Rattle.std.proofs.lemmas.Bool.{lt-ltb, le-ltb, cases_lt, and_parts, eqb-true
 use Rattle.geometry.specs.declared.block.Block.{Block}
 use Rattle.geometry.specs.Blocks.{total, start_of, block_of}
 use Rattle.geometry.specs.Plans.{Plan, Named, dead, chips, plan_among, plan_of, starts_of, sizes_of, holds, contiguous, Contiguous, IsTable, LaidOut}
-use Rattle.geometry.specs.Rows.{Unbroken}
+use Rattle.geometry.specs.BlockTables.{Unbroken}
 
 -- Block b reaches from its start to its end, and holds no other address.
 pub block_is : (sizes : List ℕ) (k b : ℕ) → b < length sizes → start_of sizes b ≤ k → k < start_of sizes b + get_or sizes b 0

@@ -1,7 +1,7 @@
 pub mod Blocks
 pub mod DataSheets
 pub mod Plans
-pub mod RowSizes
-pub mod Rows
+pub mod TableSizes
+pub mod BlockTables
 pub mod Sets
 pub mod Sheets

@@ -4,12 +4,12 @@ ghost use Rattle.std.specs.Prelude.{◌≡◌, ℕ, ◌≤◌, length};
 ghost use Rattle.geometry.specs.Blocks.{block_of};
 ghost use Rattle.geometry.specs.DataSheets.{AsTheSheetsSay};
 ghost use Rattle.geometry.specs.Plans.{plan_of, sheet_of, is_chip, blocks_of, IsTable, block_at, LaidOut};
-ghost use Rattle.geometry.specs.RowSizes.{sizes};
+ghost use Rattle.geometry.specs.TableSizes.{sizes};
 ghost use Rattle.geometry.specs.Sets.{largest_set};
 
 use crate::block::Block;
 use crate::datasheet::Sheet;
-use crate::rows::Row;
+use crate::lookup::BlockTable;
 use crate::set::BlockSet;
 use crate::tables::{Bench, Bottom, Dead, Top};
 use crate::walk;
@@ -103,9 +103,9 @@ pub fn block_at(kind: u8, address: u32) -> usize
     by_kind!(kind, block_at(address))
 }
 
-/// The blocks as a row.
-pub fn row(kind: u8) -> Row
+/// The table of the blocks.
+pub fn block_table(kind: u8) -> BlockTable
     ensures { sizes result ≡ (plan_of kind).sizes }
 {
-    by_kind!(kind, row())
+    by_kind!(kind, block_table())
 }

@@ -4,7 +4,7 @@
 mod block;
 mod datasheet;
 mod kinds;
-mod rows;
+mod lookup;
 mod set;
 mod tables;
 mod walk;
@@ -12,10 +12,10 @@ mod walk;
 pub use block::Block;
 pub use datasheet::{Choice, Commands, Sheet};
 pub use kinds::{
-    BENCH, BOTTOM, DEAD, TOP, block_at, blocks, code, count, is_chip, nth_block, row, sheet, size,
-    table,
+    BENCH, BOTTOM, DEAD, TOP, block_at, block_table, blocks, code, count, is_chip, nth_block,
+    sheet, size, table,
 };
-pub use rows::Row;
+pub use lookup::BlockTable;
 pub use set::{BlockSet, LARGEST_SET};
 pub use tables::{Bench, Bottom, Dead, Geometry, Top};
 pub use walk::cell_at;

@@ -3,11 +3,11 @@
 ghost use Rattle.std.specs.Prelude.{◌≡◌, length, slice_index};
 ghost use Rattle.geometry.specs.Blocks.{block_of};
 ghost use Rattle.geometry.specs.Plans.{sheet_of, IsTable, block_at};
-ghost use Rattle.geometry.specs.RowSizes.{sizes};
+ghost use Rattle.geometry.specs.TableSizes.{sizes};
 
 use crate::block::Block;
 use crate::datasheet::Sheet;
-use crate::rows::Row;
+use crate::lookup::BlockTable;
 use crate::tables::Geometry;
 
 pub(crate) fn size<G: Geometry>() -> u32
@@ -48,18 +48,18 @@ pub(crate) fn nth_block<G: Geometry>(number: usize) -> Option<Block>
     G::table().get(number).copied()
 }
 
-// The blocks as a row.
-pub(crate) fn row<G: Geometry>() -> Row
+// The table of the blocks.
+pub(crate) fn block_table<G: Geometry>() -> BlockTable
     ensures { sizes result ≡ G.Geometry.plan.sizes }
 {
-    Row::of::<G>()
+    BlockTable::of::<G>()
 }
 
 // The block that an address lies in; past the last block, the number of blocks.
 pub(crate) fn block_at<G: Geometry>(address: u32) -> usize
     ensures { result ≡ block_of G.Geometry.plan.sizes address }
 {
-    Row::of::<G>().block_at(address)
+    BlockTable::of::<G>().block_at(address)
 }
 
 /// The cell at an address; 0 where there is none.

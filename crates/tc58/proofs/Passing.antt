@@ -16,7 +16,7 @@ use Rattle.chip.specs.declared.state.Program.{Program}
 use Rattle.chip.specs.declared.state.Erase.{Erase}
 use Rattle.chip.specs.declared.state.State.{State}
 use Rattle.chip.specs.declared.state.State.TheVariants.{Programming, Erasing, Suspending, Suspended, Failed}
-use Rattle.chip.specs.Flash.{Flash, ground_of, blocks, worn, erasable}
+use Rattle.chip.specs.Flash.{Flash, block_map_of, blocks, worn, erasable}
 use Rattle.chip.specs.Writes.{read_mode}
 use Rattle.chip.specs.Times.{programmed, spoils, erase_time, erased, ended, due, lowered, step, steps, with_clock, waited, after}
 use Rattle.chip.specs.Laws as laws
@@ -66,12 +66,12 @@ module _ (f : Flash) (q : Program) (is : f.state ≡ Programming q) where
     at_end : ended f f.state ≡ programmed f q
     at_end = ap (ended f) is
 
-    bad_at : worn f q.address ≡ true → program_fails (ground_of f) f.cells q.address q.byte ≡ true
+    bad_at : worn f q.address ≡ true → program_fails (block_map_of f) f.cells q.address q.byte ≡ true
     bad_at w =
         ap (λ (t : Bool). not t && (worn f q.address || needs_erase (get_or f.cells q.address 0) q.byte)) (clear f q.address q.byte k).unprotected
         ∙ ap (λ (t : Bool). t || needs_erase (get_or f.cells q.address 0) q.byte) w
 
-    good_at : worn f q.address ≡ false → program_fails (ground_of f) f.cells q.address q.byte ≡ false
+    good_at : worn f q.address ≡ false → program_fails (block_map_of f) f.cells q.address q.byte ≡ false
     good_at w =
         ap (λ (t : Bool). not t && (worn f q.address || needs_erase (get_or f.cells q.address 0) q.byte)) (clear f q.address q.byte k).unprotected
         ∙ ap (λ (t : Bool). t || needs_erase (get_or f.cells q.address 0) q.byte) w ∙ (clear f q.address q.byte k).clears
@@ -80,7 +80,7 @@ module _ (f : Flash) (q : Program) (is : f.state ≡ Programming q) where
     program_worn w =
         past n (max 1 q.left) f (with_state f (Failed q.byte q.toggle)) due_program (omega arith)
         (at_end
-        ∙ ap (λ (t : Bool). record f { cells = after_program (ground_of f) f.cells q.address q.byte; state = cond t (Failed q.byte q.toggle) read_mode }) (bad_at w)
+        ∙ ap (λ (t : Bool). record f { cells = after_program (block_map_of f) f.cells q.address q.byte; state = cond t (Failed q.byte q.toggle) read_mode }) (bad_at w)
         ∙ ap (λ (t : Bool). record f { cells = cond t f.cells (set f.cells q.address (bit_and (get_or f.cells q.address 0) q.byte)); state = Failed q.byte q.toggle })
         (ap (λ (t : Bool). t || worn f q.address) (clear f q.address q.byte k).unprotected ∙ w))
         refl
@@ -90,7 +90,7 @@ module _ (f : Flash) (q : Program) (is : f.state ≡ Programming q) where
         let same : bit_and (get_or f.cells q.address 0) q.byte ≡ q.byte = eqb-true _ _ (not-false _ (clear f q.address q.byte k).clears) in
         past n (max 1 q.left) f (record f { cells = set f.cells q.address q.byte; state = read_mode }) due_program (omega arith)
         (at_end
-        ∙ ap (λ (t : Bool). record f { cells = after_program (ground_of f) f.cells q.address q.byte; state = cond t (Failed q.byte q.toggle) read_mode }) (good_at w)
+        ∙ ap (λ (t : Bool). record f { cells = after_program (block_map_of f) f.cells q.address q.byte; state = cond t (Failed q.byte q.toggle) read_mode }) (good_at w)
         ∙ ap (λ (t : Bool). record f { cells = cond t f.cells (set f.cells q.address (bit_and (get_or f.cells q.address 0) q.byte)); state = read_mode })
         (ap (λ (t : Bool). t || worn f q.address) (clear f q.address q.byte k).unprotected ∙ w)
         ∙ ap (λ (x : ℕ). record f { cells = set f.cells q.address x; state = read_mode }) same)

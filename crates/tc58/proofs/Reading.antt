@@ -20,7 +20,7 @@ use Rattle.chip.specs.declared.state.Phase.TheVariants.{Window, Erasing as Begun
 use Rattle.chip.specs.declared.state.Erase.{Erase as ChipErase}
 use Rattle.chip.specs.declared.state.State.{State}
 use Rattle.chip.specs.declared.state.State.TheVariants.{Ready, Programming, Erasing, Suspending, Suspended, Failed}
-use Rattle.chip.specs.Flash.{Flash, ground_of, blocks, protected, lies_in}
+use Rattle.chip.specs.Flash.{Flash, block_map_of, blocks, protected, lies_in}
 use Rattle.chip.specs.Flash as flash
 use Rattle.chip.specs.Reads.{begun, shown, flip_erase, answered, seen}
 use Rattle.chip.specs.Reads as reads
@@ -158,7 +158,7 @@ module _ (f : Flash) (a : ℕ) (i : inside (sheet_of f.setup.kind) a ≡ true) w
         let at_guard = (places f.setup.kind b l).guard in
         let here : block_of (blocks f) a ≡ b = ap (λ (x : ℕ). block_of (blocks f) x) at ∙ at_guard.1 in
         byte_by (Ready Id Start) (identifies_is f f.state 0 e)
-        ∙ ap (λ (q : Question). answer (plans.sheet_of (plan_of f.setup.kind)) (ground_of f) a q)
+        ∙ ap (λ (q : Question). answer (plans.sheet_of (plan_of f.setup.kind)) (block_map_of f) a q)
         (ap (λ (x : ℕ). asked (plan_of f.setup.kind).choice x) at ∙ guard_asked f.setup.kind b l)
         ∙ ap (λ (t : Bool). cond t 1 0) (sym (guarded_is f a i) ∙ ap (guarded (meaning (rig_of f))) here);
     programs = λ p o e at.

@@ -13,8 +13,8 @@ loop-left-preserved c =
     let rest = c.loop-left.rest - left in
     let e : Ends c.loop-left.rest left (due f.state) = within_some c.loop-left.rest left (due f.state) (sym c.in-Some.ensures.over) in
     let n : c.loop-left.rest ≡ left + rest = omega (arith, e.most) in
-    let same : c.end_within.new.self ≡ f.state = 
-        c.in-Some.ensures.rest ∙ ap (λ (o : Option ℕ). cond (is_some o) f.state (lowered c.loop-left.rest f.state)) (sym c.in-Some.ensures.over) in
+    let same : c.end_within.new.self ≡ f.state =
+    c.in-Some.ensures.rest ∙ ap (λ (o : Option ℕ). cond (is_some o) f.state (lowered c.loop-left.rest f.state)) (sym c.in-Some.ensures.over) in
     c.loop-left.invariant
     ∙ ap (λ (m : ℕ). steps m f) n
     ∙ steps_split left rest f
@@ -23,6 +23,6 @@ loop-left-preserved c =
 pub returns : goal.returns
 returns c =
     let f = view c.loop-left.self in
-    let same : c.end_within.new.self ≡ lowered c.loop-left.rest f.state = 
-        c.in_default.ensures.rest ∙ ap (λ (o : Option ℕ). cond (is_some o) f.state (lowered c.loop-left.rest f.state)) (sym c.in_default.ensures.over) in
+    let same : c.end_within.new.self ≡ lowered c.loop-left.rest f.state =
+    c.in_default.ensures.rest ∙ ap (λ (o : Option ℕ). cond (is_some o) f.state (lowered c.loop-left.rest f.state)) (sym c.in_default.ensures.over) in
     ap (with_state f) same ∙ sym (outlasted c.loop-left.rest f (sym c.in_default.ensures.over)) ∙ sym c.loop-left.invariant

@@ -1,4 +1,4 @@
--- Blocks in a row.
+-- A table of blocks that follow one another.
 use Rattle.std.specs.Prelude.{◌≡◌, true, List}
 use Rattle.geometry.specs.declared.block.Block.{Block}
 use Rattle.geometry.specs.Blocks.{total}

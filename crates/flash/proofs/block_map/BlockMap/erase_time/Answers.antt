@@ -1,7 +1,7 @@
 use Rattle.std.proofs.Common.{◌≤◌, arith}
 use Rattle.std.proofs.lemmas.Nat.{mul-le}
-use Rattle.flash.proofs.ground.Ground.erase_time.Goals as goal
-use Rattle.flash.proofs.ground.Ground.erase_time.Goals.{then-spoils, else-spoils}
+use Rattle.flash.proofs.block_map.BlockMap.erase_time.Goals as goal
+use Rattle.flash.proofs.block_map.BlockMap.erase_time.Goals.{then-spoils, else-spoils}
 
 pub overflow_mul-result : goal.overflow_mul-result
 overflow_mul-result c =

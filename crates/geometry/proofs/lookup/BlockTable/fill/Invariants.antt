@@ -1,8 +1,8 @@
 use Rattle.std.proofs.Common.{◌≡◌, ℕ, ◌<◌, cond, ◌&&◌, ltb, length, get_or}
 use Rattle.geometry.specs.Blocks.{block_of}
-use Rattle.geometry.specs.RowSizes.{sizes}
+use Rattle.geometry.specs.TableSizes.{sizes}
 use Rattle.geometry.specs.Sets.{has}
-use Rattle.geometry.proofs.rows.Row.fill.Given as goal
+use Rattle.geometry.proofs.lookup.BlockTable.fill.Given as goal
 
 abbrev pub invariant-loop-number : goal.invariant-loop-number
 invariant-loop-number l =

@@ -1,7 +1,7 @@
 // Blocks in a row, which is all that work on cells knows of a chip's geometry.
 ghost use Rattle.std.specs.Prelude.{◌≡◌, position};
 ghost use Rattle.geometry.specs.Plans.{holds};
-ghost use Rattle.geometry.specs.Rows.{Unbroken};
+ghost use Rattle.geometry.specs.BlockTables.{Unbroken};
 
 use crate::block::Block;
 use crate::set::BlockSet;
@@ -16,22 +16,22 @@ fn holder(blocks: &[Block], address: u32) -> Option<usize>
 
 /// The blocks of a chip in a row: the first begins at address 0, and each other one where the one before it ends.
 #[derive(Clone, Copy)]
-pub struct Row {
+pub struct BlockTable {
     blocks: &'static [Block],
     ghost unbroken: { Unbroken blocks.now },
 }
 
-impl Row {
+impl BlockTable {
     ghost use Rattle.geometry.specs.Blocks.{block_of, filled};
     ghost use Rattle.geometry.specs.Sets.{has};
-    ghost use Rattle.geometry.specs.RowSizes.{sizes};
+    ghost use Rattle.geometry.specs.TableSizes.{sizes};
 
     /// The blocks of a geometry, also of one that another crate brings.
     #[tactic(auto, using(crate::proofs::Placing::unbroken))]
-    pub fn of<G: Geometry>() -> Row
+    pub fn of<G: Geometry>() -> BlockTable
         ensures { sizes result ≡ G.Geometry.plan.sizes }
     {
-        Row { blocks: G::table() }
+        BlockTable { blocks: G::table() }
     }
 
     /// The block that an address lies in; past the last block, the number of blocks.
