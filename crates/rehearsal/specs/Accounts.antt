@@ -103,6 +103,6 @@ abbrev pub HoldsFromBlank : Past → ℕ → Option ℕ → Type 0
 HoldsFromBlank past p (Some stops) = LastSet past.calls past.lines p stops
 HoldsFromBlank past p None = Emptied past.calls past.lines p
 
--- There the two say the same.
+-- There the second follows from the first.
 abbrev pub BlankCase : Type 0
 BlankCase = (past : Past) (p : ℕ) (v : Option ℕ) → past.showed p ≡ None → Holds past p v → HoldsFromBlank past p v
