@@ -26,7 +26,7 @@ use Rattle.console.specs.Faults.{at_position, no_place, placed, reported, Refuse
 use Rattle.console.specs.Waiting.{let_end, ends_worn, is_worn, pass_worn, WaitsOn, Waits}
 use Rattle.console.specs.Checks.{Checked, store_books}
 use Rattle.console.specs.Storing.{way, Goes, Writes, Stored, StoresOn, Stores}
-use Rattle.console.specs.Opening.{desk_after, open_report, OpensOn, Opens}
+use Rattle.console.specs.Opening.{desk_after, OpensOn, Opens}
 
 -- What a check says by its answer.
 checked_err : (q : Result Pair Cause) (p : ℕ) (f : ConsoleFault) → Checked q p (Err f) → (cause : Cause) × (q ≡ Err cause) × (f ≡ no_place cause p)
@@ -108,16 +108,23 @@ unfolding Opens
 opens_already m None a b e = absurd (true≢false (sym e))
 opens_already m (Some c) a b e = (refl, refl)
 
-pub opens_done : (m n : Meaning) (o e : Option Books) (a b : ℕ) (q : Result Books PartFault) (r : Result ℕ ConsoleFault) → is_some o ≡ false
-    → Opened m a b (pair_in q) n → r ≡ open_report m n (pair_in q) → desk n e ≡ desk_after n (pair_in q) → Opens (desk m o) a b r (desk n e)
+pub opens_done : (m n : Meaning) (o e : Option Books) (a b us : ℕ) (q : Result Books PartFault) (r : Result Answer ConsoleFault) → is_some o ≡ false
+    → Opened m a b (pair_in q) n → us ≡ moved m n → r ≡ reported 0 (λ _. record { said = Done; us = us }) (pair_in q)
+    → desk n e ≡ desk_after n (pair_in q) → Opens (desk m o) a b r (desk n e)
 unfolding Opens
-opens_done m n o e a b q r c x d l =
+opens_done m n o e a b us q r c x t d l =
     subst (λ (y : Option Pair). OpensOn y (desk m o) a b r (desk n e)) (sym (ap books_of (none_is o c)))
-    (record { taken = pair_in q; part = n; opens = x; says = d; leaves = l })
+    (record {
+      taken = pair_in q;
+      part = n;
+      opens = x;
+      says = d ∙ ap (λ (u : ℕ). reported 0 (λ _. record { said = Done; us = u }) (pair_in q)) t;
+      leaves = l;
+    })
 
-pub opens_refused : (m n : Meaning) (o : Option Books) (a b : ℕ) (f : PartFault) (r : Result ℕ ConsoleFault) → is_some o ≡ false
+pub opens_refused : (m n : Meaning) (o : Option Books) (a b : ℕ) (f : PartFault) (r : Result Answer ConsoleFault) → is_some o ≡ false
     → Opened m a b (Err f) n → r ≡ Err (console_fault f) → Opens (desk m o) a b r (desk n o)
-opens_refused m n o a b f r c x d = opens_done m n o o a b (Err f) r c x d (ap (desk n) (none_is o c))
+opens_refused m n o a b f r c x d = opens_done m n o o a b (moved m n) (Err f) r c x refl d (ap (desk n) (none_is o c))
 
 -- wait.
 pub waits_closed : (m : Meaning) (o : Option Books) (n : ℕ) → o ≡ None → Waits (desk m o) n (Err (no_place OutOfTurn 0)) (desk m o)

@@ -9,11 +9,13 @@ use Rattle.book.specs.Pairs.{Pair}
 use Rattle.book.specs.Finding.{Opened}
 use Rattle.book.proofs.Opening.{OpenBooks, opened_books}
 use Rattle.fault.specs.declared.faults.ConsoleFault.{ConsoleFault}
+use Rattle.console.specs.declared.answers.Said.TheVariants.{Done}
 use Rattle.console.specs.declared.answers.Answer.{Answer}
 use Rattle.console.specs.declared.call.Call.{Call}
 use Rattle.console.specs.declared.call.Call.TheVariants.{Set, Clear, Recall, Next, Wait}
-use Rattle.console.specs.Desks.{Desk, opened}
-use Rattle.console.specs.Opening.{OpensClosed, desk_after, open_report}
+use Rattle.console.specs.Desks.{Desk, opened, moved}
+use Rattle.console.specs.Faults.{reported}
+use Rattle.console.specs.Opening.{OpensClosed, desk_after}
 use Rattle.console.specs.Calls.{Replies}
 use Rattle.console.proofs.Tables.{Table}
 use Rattle.console.proofs.Keeping.{Keeps, Goes}
@@ -36,7 +38,7 @@ pub record Took (m : Meaning) (a b : ℕ) (e : Desk) : Type 0 where
   pub leaves : e ≡ opened e.part books
   pub opens : OpenBooks m a b books e.part
 
-pub took : (m : Meaning) (a b : ℕ) (r : Result ℕ ConsoleFault) (e : Desk) → Lawful m → is_ok r ≡ true → OpensClosed m a b r e → Took m a b e
+pub took : (m : Meaning) (a b : ℕ) (r : Result Answer ConsoleFault) (e : Desk) → Lawful m → is_ok r ≡ true → OpensClosed m a b r e → Took m a b e
 took m a b r e l t x = by x.taken refl
   where
     by : (q : Result Pair PartFault) → x.taken ≡ q → Took m a b e
@@ -50,7 +52,7 @@ took m a b r e l t x = by x.taken refl
           opens = subst (λ (z : Meaning). OpenBooks m a b c z) (sym j) (opened_books m a b c x.part l y);
         }
     by (Err f) d =
-        let y : is_ok r ≡ false = ap (λ (z : Result ℕ ConsoleFault). is_ok z) (x.says ∙ ap (open_report m x.part) d) in
+        let y : is_ok r ≡ false = ap is_ok (x.says ∙ ap (reported 0 (λ _. record { said = Done; us = moved m x.part })) d) in
         absurd (both_ways (is_ok r) y t)
 
 -- what then holds, by a table of what the books show

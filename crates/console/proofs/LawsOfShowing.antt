@@ -14,7 +14,7 @@ use Rattle.console.specs.Desks.{Desk, opened}
 use Rattle.console.specs.Calls.{Replies}
 use Rattle.console.specs.Opening.{Opens}
 use Rattle.console.specs.Showing.{books_show, OnlyLooks}
-use Rattle.console.specs.Laws.{OtherBook, is_blank, is_erased, is_spoilt, InOrder, ShowAsBefore, StaysInOrder, OrderLaw, SetLaw, ClearLaw, holds_shown, RecallLaw, NextLaw}
+use Rattle.console.specs.Laws.{OtherBook, is_blank, is_erased, is_spoilt, InOrder, ShowSame, StaysInOrder, OrderLaw, SetLaw, ClearLaw, holds_shown, RecallLaw, NextLaw}
 use Rattle.console.proofs.Tables.{Table, after}
 use Rattle.console.proofs.Keeping.{Rest, ready, erasing, spoilt, Keeps, Goes}
 use Rattle.console.proofs.Looks.{after_look}
@@ -100,7 +100,7 @@ module _ (d : Desk) (o : InOrder d) where
         positions = g.keeps.positions ∙ sym its_positions;
       }
 
-  looks_same : (c : Call) → OnlyLooks c → (r : Result Answer ConsoleFault) (e : Desk) → Replies d c r e → ShowAsBefore b.positions d e
+  looks_same : (c : Call) → OnlyLooks c → (r : Result Answer ConsoleFault) (e : Desk) → Replies d c r e → ShowSame b.positions d e
   looks_same c only r e x q l h = shows_after c r e x q l h ∙ after_look c only (is_ok r) (books_show d) q
 
   -- what an accepted and a refused store leave
@@ -113,8 +113,8 @@ module _ (d : Desk) (o : InOrder d) where
 pub order_law : OrderLaw
 unfolding Opens
 order_law = record {
-  opened = λ m a b us e l x k.
-      let t = took m a b (Ok us) e l refl x in
+  opened = λ m a b y e l x k.
+      let t = took m a b (Ok y) e l refl x in
       in_order m a b (books_show e) e t.books t.leaves
       (keeps_opened m a b t.books e.part (books_show e) t.opens (λ q _ _. sym (in_cells e t.books t.leaves q))) k;
   called = λ d o c r e x l. stays d o c r e x l;

@@ -20,7 +20,7 @@ abbrev pub placed : {X : Type 0} → ℕ → Result X PartFault → Result X Con
 placed p (Ok x) = Ok x
 placed p (Err f) = Err (at_position p f)
 
--- what a call with a position answers: what it says of what it found or did, or the part's fault
+-- what a call answers that is given position p, or 0 where it is given none: what it says of what it found or did, or the part's fault
 abbrev pub reported : {X : Type 0} → ℕ → (X → Answer) → Result X PartFault → Result Answer ConsoleFault
 reported p says (Ok x) = Ok (says x)
 reported p says (Err f) = Err (at_position p f)

@@ -32,9 +32,9 @@ pub record InOrder (d : Desk) : Type 0 where
   pub readable : readable_book d.part.cells books.current.start books.positions ≡ true
   pub other : OtherBook d.part books
 
--- at each of the n positions the books show what they showed
-abbrev pub ShowAsBefore : ℕ → Desk → Desk → Type 0
-ShowAsBefore n d e = (q : ℕ) → 1 ≤ q → q ≤ n → books_show e q ≡ books_show d q
+-- at each of the n positions two consoles, or one before a call and after it, show the same
+abbrev pub ShowSame : ℕ → Desk → Desk → Type 0
+ShowSame n d e = (q : ℕ) → 1 ≤ q → q ≤ n → books_show e q ≡ books_show d q
 
 -- at position p they show the new stops, or that it is empty, and at the others what they showed
 abbrev pub ShowNew : ℕ → Desk → Desk → ℕ → Option ℕ → Type 0
@@ -47,7 +47,7 @@ pub record StaysInOrder (n : ℕ) (e : Desk) : Type 0 where
 
 -- What the laws of the calls need of a console holds of each one that was opened, and of each one after a call.
 pub record OrderLaw : Type 0 where
-  pub opened : (m : Meaning) (a b us : ℕ) (e : Desk) → Lawful m → Opens (closed m) a b (Ok us) e → Lawful e.part → InOrder e
+  pub opened : (m : Meaning) (a b : ℕ) (x : Answer) (e : Desk) → Lawful m → Opens (closed m) a b (Ok x) e → Lawful e.part → InOrder e
   pub called : (d : Desk) (o : InOrder d) (c : Call) (r : Result Answer ConsoleFault) (e : Desk) → Replies d c r e → Lawful e.part
       → StaysInOrder o.books.positions e
 
@@ -56,14 +56,14 @@ pub record SetLaw : Type 0 where
   pub accepted : (d : Desk) (o : InOrder d) (p stops : ℕ) (r : Result Answer ConsoleFault) (e : Desk) → Replies d (Set p stops) r e
       → is_ok r ≡ true → ShowNew o.books.positions d e p (Some stops)
   pub refused : (d : Desk) (o : InOrder d) (p stops : ℕ) (r : Result Answer ConsoleFault) (e : Desk) → Replies d (Set p stops) r e
-      → is_ok r ≡ false → ShowAsBefore o.books.positions d e
+      → is_ok r ≡ false → ShowSame o.books.positions d e
 
 -- clear: after an accepted one its position is empty.
 pub record ClearLaw : Type 0 where
   pub accepted : (d : Desk) (o : InOrder d) (p : ℕ) (r : Result Answer ConsoleFault) (e : Desk) → Replies d (Clear p) r e
       → is_ok r ≡ true → ShowNew o.books.positions d e p None
   pub refused : (d : Desk) (o : InOrder d) (p : ℕ) (r : Result Answer ConsoleFault) (e : Desk) → Replies d (Clear p) r e
-      → is_ok r ≡ false → ShowAsBefore o.books.positions d e
+      → is_ok r ≡ false → ShowSame o.books.positions d e
 
 -- what position p holds is what the books show there
 abbrev pub holds_shown : Desk → ℕ → Option ℕ → Type 0
@@ -74,7 +74,7 @@ pub record RecallLaw : Type 0 where
   pub shows : (d : Desk) (o : InOrder d) (p : ℕ) (r : Result Answer ConsoleFault) (e : Desk) → Replies d (Recall p) r e
       → 1 ≤ p → p ≤ o.books.positions → ShowsHeld (holds_shown d) p r
   pub same : (d : Desk) (o : InOrder d) (p : ℕ) (r : Result Answer ConsoleFault) (e : Desk) → Replies d (Recall p) r e
-      → ShowAsBefore o.books.positions d e
+      → ShowSame o.books.positions d e
   pub prompt : (d : Desk) (o : InOrder d) (p : ℕ) (r : Result Answer ConsoleFault) (e : Desk) → Replies d (Recall p) r e
       → Prompt d.part.clock e.part.clock r
 
@@ -83,6 +83,6 @@ pub record NextLaw : Type 0 where
   pub finds : (d : Desk) (o : InOrder d) (p : ℕ) (r : Result Answer ConsoleFault) (e : Desk) → Replies d (Next p) r e
       → p ≤ o.books.positions → FindsNearest (holds_shown d) o.books.positions p r
   pub same : (d : Desk) (o : InOrder d) (p : ℕ) (r : Result Answer ConsoleFault) (e : Desk) → Replies d (Next p) r e
-      → ShowAsBefore o.books.positions d e
+      → ShowSame o.books.positions d e
   pub prompt : (d : Desk) (o : InOrder d) (p : ℕ) (r : Result Answer ConsoleFault) (e : Desk) → Replies d (Next p) r e
       → Prompt d.part.clock e.part.clock r

@@ -6,30 +6,27 @@ use Rattle.part.specs.Meaning.{Meaning}
 use Rattle.book.specs.Pairs.{Pair}
 use Rattle.book.specs.Finding.{Opened}
 use Rattle.fault.specs.declared.faults.ConsoleFault.{ConsoleFault}
-use Rattle.fault.specs.Raising.{console_fault}
+use Rattle.console.specs.declared.answers.Said.TheVariants.{Done}
+use Rattle.console.specs.declared.answers.Answer.{Answer}
 use Rattle.console.specs.Desks.{Desk, closed, opened, moved}
-use Rattle.console.specs.Faults.{no_place, Refuses}
+use Rattle.console.specs.Faults.{no_place, reported, Refuses}
 
 -- the books that were taken, if open was accepted
 abbrev pub desk_after : Meaning → Result Pair PartFault → Desk
 desk_after n (Ok b) = opened n b
 desk_after n (Err f) = closed n
 
-abbrev pub open_report : Meaning → Meaning → Result Pair PartFault → Result ℕ ConsoleFault
-open_report m n (Ok b) = Ok (moved m n)
-open_report m n (Err f) = Err (console_fault f)
-
-pub record OpensClosed (m : Meaning) (a b : ℕ) (r : Result ℕ ConsoleFault) (e : Desk) : Type 0 where
+pub record OpensClosed (m : Meaning) (a b : ℕ) (r : Result Answer ConsoleFault) (e : Desk) : Type 0 where
   pub taken : Result Pair PartFault
   pub part : Meaning
   pub opens : Opened m a b taken part
-  pub says : r ≡ open_report m part taken
+  pub says : r ≡ reported 0 (λ _. record { said = Done; us = moved m part }) taken
   pub leaves : e ≡ desk_after part taken
 
-abbrev pub OpensOn : Option Pair → Desk → ℕ → ℕ → Result ℕ ConsoleFault → Desk → Type 0
+abbrev pub OpensOn : Option Pair → Desk → ℕ → ℕ → Result Answer ConsoleFault → Desk → Type 0
 OpensOn (Some x) d a b r e = Refuses d (no_place OutOfTurn 0) r e
 OpensOn None d a b r e = OpensClosed d.part a b r e
 
 -- open takes two blocks for books. A refused open leaves the console closed.
-unfoldable pub Opens : Desk → ℕ → ℕ → Result ℕ ConsoleFault → Desk → Type 0
+unfoldable pub Opens : Desk → ℕ → ℕ → Result Answer ConsoleFault → Desk → Type 0
 Opens d a b r e = OpensOn d.books d a b r e

@@ -3,7 +3,7 @@
 /// What an accepted call says.
 #[derive(Clone, Copy, Debug, PartialEq, Eq)]
 pub enum Said {
-    /// set, clear and wait.
+    /// open, set, clear and wait.
     Done,
     /// recall: the stops, or none where the position is empty.
     Shows(Option<u64>),

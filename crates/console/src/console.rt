@@ -4,6 +4,7 @@ ghost use Rattle.part.specs.Neighbours.{elapsed};
 ghost use Rattle.console.specs.Desks.{closed, is_quiet};
 ghost use Rattle.console.specs.Opening.{Opens};
 
+use crate::answers::{Answer, Said};
 use crate::faults::refused;
 use book::Books;
 use fault::{Cause, ConsoleFault};
@@ -67,7 +68,7 @@ impl<P: Part + Drop> Console<P> {
     }
 
     /// Opens the console on two blocks of its part, and reports the microseconds. A refused open leaves it closed.
-    pub fn open(&mut self, a: u32, b: u32) -> Result<u32, ConsoleFault>
+    pub fn open(&mut self, a: u32, b: u32) -> Result<Answer, ConsoleFault>
         ensures { Opens self.old a b result self.new }
     {
         if self.books.is_some() {
@@ -76,6 +77,9 @@ impl<P: Part + Drop> Console<P> {
         let before = self.part.clock();
         let books = Books::open(&mut self.part, a, b)?;
         self.books = Some(books);
-        Ok(self.since(before))
+        Ok(Answer {
+            said: Said::Done,
+            us: self.since(before),
+        })
     }
 }

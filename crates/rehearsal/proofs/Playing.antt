@@ -5,6 +5,7 @@ use Rattle.std.proofs.Math.Seq.{map-set_same}
 use Rattle.console.specs.declared.call.Call.{Call}
 use Rattle.console.specs.Desks.{Desk}
 use Rattle.rehearsal.specs.declared.line.Line.{Line}
+use Rattle.rehearsal.specs.declared.line.Act.TheVariants as acts
 use Rattle.rehearsal.specs.declared.row.Row.{Row}
 use Rattle.rehearsal.specs.declared.row.Side.{Side}
 use Rattle.rehearsal.specs.declared.row.Side.TheVariants.{Quick, Slow}
@@ -16,14 +17,14 @@ pub played_none : (d : Desk) (ls : List Line) → ls ≡ [] → Played d [] ls d
 played_none d ls e = subst (λ (x : List Line). Played d [] x d) (sym e) (none d)
 
 -- One call more, at the end of the list.
-pub played_more : {d k e : Desk} {c : Call} {cs : List Call} {l : Line} {ls : List Line} → Played d cs ls k → Plays k c l e
+pub played_more : {d k e : Desk} {c : Call} {cs : List Call} {l : Line} {ls : List Line} → Played d cs ls k → Plays k (acts.Call c) l e
     → Played d (cs ++ c ∷ []) (ls ++ l ∷ []) e
 played_more (none d) q = more q (none _)
 played_more (more p ps) q = more p (played_more ps q)
 
 -- The same, where the calls and the lines are said to be those and one more.
 pub played_next : {d k e : Desk} {c : Call} {cs calls : List Call} {l : Line} {ls log : List Line} → calls ≡ cs ++ c ∷ []
-    → log ≡ ls ++ l ∷ [] → Played d cs ls k → Plays k c l e → Played d calls log e
+    → log ≡ ls ++ l ∷ [] → Played d cs ls k → Plays k (acts.Call c) l e → Played d calls log e
 played_next {d} {e = e} {calls = calls} {l = l} {ls = ls} x y ps p =
     subst (λ (log : List Line). Played d calls log e) (sym y)
     (subst (λ (calls : List Call). Played d calls (ls ++ l ∷ []) e) (sym x) (played_more ps p))
@@ -74,7 +75,7 @@ pub record Turn (side : Side) (init rows : List Row) (i : ℕ) (v : Row) (start 
 
 pub turn : (side : Side) (init rows : List Row) (i : ℕ) (d : Row) (line : Line) (v : Row) (start k e : Desk) → v ≡ noted side line (get_or rows i d)
     → i < length rows → Played start (take i (calls_of init)) (take i (lines_of side rows)) k → calls_of rows ≡ calls_of init
-    → lines_of (other side) rows ≡ lines_of (other side) init → Plays k (get_or rows i d).call line e → Turn side init rows i v start e
+    → lines_of (other side) rows ≡ lines_of (other side) init → Plays k (acts.Call (get_or rows i d).call) line e → Turn side init rows i v start e
 turn side init rows i d line v start k e w h p c b x =
     subst (λ (u : Row). Turn side init rows i u start e) (sym w) (record {
       played = played_next {d = start} {e = e}

@@ -8,9 +8,11 @@ use Rattle.book.specs.Pages.{page_at, shown, blank}
 use Rattle.book.specs.Pairs.{Pair, book_size}
 use Rattle.book.specs.Finding.{width, positions_of}
 use Rattle.book.proofs.Opening.{opened_again}
+use Rattle.console.specs.declared.answers.Said.TheVariants.{Done}
 use Rattle.console.specs.declared.call.Call.{Call}
 use Rattle.console.specs.Desks.{Desk, opened, moved, is_quiet}
-use Rattle.console.specs.Opening.{OpensOn, Opens, desk_after, open_report}
+use Rattle.console.specs.Faults.{reported}
+use Rattle.console.specs.Opening.{OpensOn, Opens, desk_after}
 use Rattle.console.specs.Calls.{Replies}
 use Rattle.rehearsal.specs.declared.line.Line.{Line}
 use Rattle.console.specs.Showing.{books_show, Prompt}
@@ -80,7 +82,7 @@ module _ (calls : List Call) (r : Run) (p : Performed calls r) (z : IsOpened r) 
   its_books : Took m first_seat second_seat p.start
   unfolding Opens
   its_books =
-      took m first_seat second_seat r.opening.reply p.start p.opens.lawful_before z.accepted
+      took m first_seat second_seat r.opening.reply p.start p.lawful z.accepted
       (subst (λ (w : Option Pair). OpensOn w r.before first_seat second_seat r.opening.reply p.start) z.closed p.opens.replies)
 
   -- what its books show, as they stand in the cells
@@ -133,7 +135,7 @@ promised calls quick slow p q = record {
   slow_trusty = trusty calls slow;
   alike = λ x y a b w s u v.
       alike_from calls quick slow x y (books_show x.start) a b w (λ _ _ _. refl)
-      (λ i l h. sym (s i l (subst (λ (n : ℕ). i ≤ n) (sym w) h))) u v;
+      (λ i l h. s i l (subst (λ (n : ℕ). i ≤ n) (sym w) h)) u v;
   alike_from_blank = λ a b c d w u v.
       alike_from calls quick slow p q nothing a b w (nothing_shown calls quick p a c) (nothing_shown calls slow q b d) u v;
   blank_case = blank_case;
@@ -167,16 +169,17 @@ no_time m l = let c : m.clock < 4294967296 = l.clock in omega arith
 
 pub same_again : SameAgain
 unfolding Opens
-same_again m a b us start e calls log l o g p q r again x =
-    let t = took m a b (Ok us) start l refl o in
+same_again m a b y start e calls log l o g p q r again x =
+    let t = took m a b (Ok y) start l refl o in
     let z = played m a b (first_table start.part t.books) start t.books calls log e g t.leaves
     (keeps_opened m a b t.books start.part (first_table start.part t.books) t.opens (λ _ _ _. refl)) p in
     let k = z.keeps in
     let w = quiet_ready e z.books z.leaves q k.rest in
     let v = opened_again m e.part a b z.books x.taken x.part t.opens.free k.sizes k.guards w.0 k.seated k.positions w.1 k.head k.readable w.2
     k.blocks x.opens in
-    let says : r ≡ Ok (moved e.part x.part) = x.says ∙ ap (open_report e.part x.part) v.0 in
+    let says : r ≡ Ok (record { said = Done; us = moved e.part x.part }) =
+    x.says ∙ ap (reported 0 (λ _. record { said = Done; us = moved e.part x.part })) v.0 in
     let time : moved e.part x.part ≡ 0 = ap (moved e.part) v.1 ∙ no_time e.part z.lawful in (
-      says ∙ ap (λ (n : ℕ). Ok n) time,
+      says ∙ ap (λ (n : ℕ). Ok (record { said = Done; us = n })) time,
       x.leaves ∙ ap (desk_after x.part) v.0 ∙ ap (λ (n : Meaning). opened n z.books) v.1 ∙ sym z.leaves,
     )

@@ -27,6 +27,7 @@ use Rattle.book.proofs.Effects.{reads, pages_at, LineDone, line_done, fresh_book
 use Rattle.book.proofs.Seating.{no_cause}
 use Rattle.book.proofs.LawsOfBooks.{write_laws}
 use Rattle.fault.specs.declared.faults.ConsoleFault.{ConsoleFault}
+use Rattle.console.specs.declared.answers.Answer.{Answer}
 use Rattle.console.specs.declared.call.Call.{Call}
 use Rattle.console.specs.declared.call.Call.TheVariants.{Set, Clear}
 use Rattle.console.specs.Desks.{Desk, closed, opened, moved}
@@ -34,9 +35,10 @@ use Rattle.console.specs.Waiting.{let_end, let_end_by, ends_worn, ends_worn_by}
 use Rattle.console.specs.declared.answers.Said.TheVariants.{Done}
 use Rattle.console.specs.Faults.{no_place, reported, Refuses}
 use Rattle.console.specs.Checks.{fits, is_position, store_books}
-use Rattle.console.specs.Opening.{desk_after, open_report, Opens}
+use Rattle.console.specs.Opening.{desk_after, Opens}
 use Rattle.console.specs.Storing.{Goes, Writes, Stored, StoresOn, Stores}
 use Rattle.rehearsal.specs.declared.line.Line.{Line}
+use Rattle.rehearsal.specs.declared.line.Act.TheVariants as acts
 use Rattle.rehearsal.specs.Accounts.{Plays, Played, none, more}
 use Rattle.rehearsal.specs.Examples.{Cell, Example, cycles, calls, BenchPart, AllAccepted, Hold, ComesOut, Each, WorkedExamples}
 
@@ -195,11 +197,11 @@ module _ (m : Meaning) (part : BenchPart m) where
       ∙ cond-false _ _ _ (clears_zero (cell m 0x400))
       ∙ cond-false _ _ _ (ap (worn m) at_block ∙ part.unworn.0)
 
-  record Starts (r : Result ℕ ConsoleFault) (p : ℕ) (e : Desk) : Type 0 where
+  record Starts (r : Result Answer ConsoleFault) (p : ℕ) (e : Desk) : Type 0 where
     accepted : is_ok r ≡ true
     stands : Stands m head p None e
 
-  opening : (p : ℕ) (r : Result ℕ ConsoleFault) (e : Desk) → 1 ≤ p → p ≤ 7 → Opens (closed m) 1 2 r e → Starts r p e
+  opening : (p : ℕ) (r : Result Answer ConsoleFault) (e : Desk) → 1 ≤ p → p ≤ 7 → Opens (closed m) 1 2 r e → Starts r p e
   unfolding Opens Opened laid
   opening p r e low high x =
       let n : ℕ = positions_of (width m 1) in
@@ -222,7 +224,7 @@ module _ (m : Meaning) (part : BenchPart m) where
       let fresh = fresh_book m.cells 0x400 7 (omega (arith, long)) first_blank in
       let parts = and_parts (blank (set m.cells 0x400 0) (0x400 + 1) 63) (readable_pages (set m.cells 0x400 0) 0x400 7) fresh.readable in
       record {
-        accepted = ap is_ok (x.says ∙ ap (open_report m x.part) taken);
+        accepted = ap is_ok (x.says ∙ ap (reported 0 (λ _. record { said = Done; us = moved m x.part })) taken);
         stands = record {
           time = took.time;
           is = x.leaves ∙ ap₂ desk_after took.is taken;
@@ -315,7 +317,7 @@ record FirstCall (d : Desk) (c : Call) (cs : List Call) (log : List Line) (e : D
   lines : List Line
   middle : Desk
   is : log ≡ line ∷ lines
-  plays : Plays d c line middle
+  plays : Plays d (acts.Call c) line middle
   goes_on : Played middle cs lines e
 
 first_call : {d e : Desk} {c : Call} {cs : List Call} {log : List Line} → Played d (c ∷ cs) log e → FirstCall d c cs log e

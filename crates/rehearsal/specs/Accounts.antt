@@ -1,55 +1,57 @@
 -- A list of calls on a console, and the account of it: a line for each call.
-use Rattle.std.specs.Prelude.{◌≡◌, ℕ, ◌<◌, true, List, [], ◌∷◌, is_ok, take, Some, None, Option}
+use Rattle.std.specs.Prelude.{◌≡◌, ℕ, ◌<◌, true, List, [], ◌∷◌, is_ok, take, Some, None, Option, Result}
 use Rattle.std.specs.List.{slice_get}
 use Rattle.part.specs.Meaning.{Lawful}
+use Rattle.fault.specs.declared.faults.ConsoleFault.{ConsoleFault}
+use Rattle.console.specs.declared.answers.Answer.{Answer}
 use Rattle.console.specs.declared.call.Call.{Call}
 use Rattle.console.specs.declared.call.Call.TheVariants.{Set, Clear}
 use Rattle.console.specs.Desks.{Desk}
 use Rattle.console.specs.Opening.{Opens}
 use Rattle.console.specs.Calls.{Replies}
 use Rattle.rehearsal.specs.declared.line.Line.{Line}
+use Rattle.rehearsal.specs.declared.line.Act.{Act}
+use Rattle.rehearsal.specs.declared.line.Act.TheVariants as acts
 use Rattle.rehearsal.specs.declared.account.Seats.{Seats}
-use Rattle.rehearsal.specs.declared.account.Opening.{Opening}
 
--- one call: the clock of the part before and after it, and the answer
-pub record Plays (d : Desk) (c : Call) (l : Line) (e : Desk) : Type 0 where
+-- the opening of a console, or one call of a list
+abbrev pub Answers : Desk → Act → Result Answer ConsoleFault → Desk → Type 0
+Answers d (acts.Open on) r e = Opens d on.first on.second r e
+Answers d (acts.Call c) r e = Replies d c r e
+
+-- its line: the clock of the part before and after it, and the answer
+pub record Plays (d : Desk) (act : Act) (l : Line) (e : Desk) : Type 0 where
   pub before : l.before ≡ d.part.clock
   pub after : l.after ≡ e.part.clock
-  pub replies : Replies d c l.reply e
-  -- what holds of every part holds of this one after the call
+  pub replies : Answers d act l.reply e
+  -- what holds of every part holds of this one afterwards
   pub lawful : Lawful e.part
 
 -- The calls were made on d in their order, with this account, and left e.
 pub data Played : Desk → List Call → List Line → Desk → Type 0 where
   none : (d : Desk) → Played d [] [] d
-  more : {d k e : Desk} {c : Call} {cs : List Call} {l : Line} {ls : List Line} → Plays d c l k → Played k cs ls e → Played d (c ∷ cs) (l ∷ ls) e
+  more : {d k e : Desk} {c : Call} {cs : List Call} {l : Line} {ls : List Line} → Plays d (acts.Call c) l k → Played k cs ls e
+      → Played d (c ∷ cs) (l ∷ ls) e
 
--- how a console was opened: the clock of the part before and after it, and the answer
-pub record OpensOnce (d : Desk) (on : Seats) (o : Opening) (e : Desk) : Type 0 where
-  pub before : o.before ≡ d.part.clock
-  pub after : o.after ≡ e.part.clock
-  pub replies : Opens d on.first on.second o.reply e
-  -- and so before an opening, and after it
-  pub lawful_before : Lawful d.part
-  pub lawful : Lawful e.part
-
--- One console in a rehearsal: as it was before, the blocks on which it was opened and how that went, the line of each call, and
--- the console afterwards.
+-- One console in a rehearsal: as it was before, the blocks on which it was opened, the line of that and of each call, and the
+-- console afterwards.
 pub record Run : Type 0 where
   pub before : Desk
   pub seats : Seats
-  pub opening : Opening
+  pub opening : Line
   pub lines : List Line
   pub after : Desk
 
-abbrev pub run : Desk → Seats → Opening → List Line → Desk → Run
+abbrev pub run : Desk → Seats → Line → List Line → Desk → Run
 run before seats opening lines after = record { before = before; seats = seats; opening = opening; lines = lines; after = after }
 
 -- A console was opened, accepted or refused, and then these calls were made.
 pub record Performed (calls : List Call) (r : Run) : Type 0 where
+  -- what holds of every part held of this one before
+  pub lawful : Lawful r.before.part
   -- the console as it was opened
   pub start : Desk
-  pub opens : OpensOnce r.before r.seats r.opening start
+  pub opens : Plays r.before (acts.Open r.seats) r.opening start
   pub played : Played start calls r.lines r.after
 
 -- call i of the list is c, and was accepted
@@ -103,6 +105,6 @@ abbrev pub HoldsFromBlank : Past → ℕ → Option ℕ → Type 0
 HoldsFromBlank past p (Some stops) = LastSet past.calls past.lines p stops
 HoldsFromBlank past p None = Emptied past.calls past.lines p
 
--- There the two say the same.
+-- There the second follows from the first.
 abbrev pub BlankCase : Type 0
 BlankCase = (past : Past) (p : ℕ) (v : Option ℕ) → past.showed p ≡ None → Holds past p v → HoldsFromBlank past p v

@@ -4,6 +4,7 @@ use Rattle.geometry.specs.Plans.{bench}
 use Rattle.chip.specs.Examples as chips
 use Rattle.part.specs.Meaning.{Meaning, guarded, Lawful}
 use Rattle.fault.specs.declared.faults.ConsoleFault.{ConsoleFault}
+use Rattle.console.specs.declared.answers.Answer.{Answer}
 use Rattle.console.specs.declared.call.Call.{Call}
 use Rattle.console.specs.declared.call.Call.TheVariants.{Set, Clear}
 use Rattle.console.specs.Desks.{Desk, closed}
@@ -63,7 +64,7 @@ Hold cells [] = Unit {0}
 Hold cells (c ∷ cs) = (slice_index cells c.address ≡ c.byte) × Hold cells cs
 
 -- Everything was accepted, and the part has these cells.
-pub record Ends (opening : Result ℕ ConsoleFault) (log : List Line) (e : Desk) (cells : List Cell) : Type 0 where
+pub record Ends (opening : Result Answer ConsoleFault) (log : List Line) (e : Desk) (cells : List Cell) : Type 0 where
   pub opened : is_ok opening ≡ true
   pub accepted : AllAccepted log
   pub holds : Hold e.part.cells cells
@@ -72,7 +73,7 @@ pub record Ends (opening : Result ℕ ConsoleFault) (log : List Line) (e : Desk)
 abbrev pub ComesOut : Example → Type 0
 ComesOut (cycles x) = chips.outcome chips.bench_chip x.cycles ≡ x.reads
 ComesOut (calls list cells) =
-    (m : Meaning) (opening : Result ℕ ConsoleFault) (start e : Desk) (log : List Line)
+    (m : Meaning) (opening : Result Answer ConsoleFault) (start e : Desk) (log : List Line)
     → BenchPart m → Opens (closed m) 1 2 opening start → Played start list log e → Ends opening log e cells
 
 -- every example comes out as the table says

@@ -6,6 +6,7 @@ use Rattle.part.specs.Calls.{longest}
 use Rattle.book.specs.Pages.{blank}
 use Rattle.book.specs.Finding.{begins, width, positions_of}
 use Rattle.fault.specs.declared.faults.ConsoleFault.{ConsoleFault}
+use Rattle.console.specs.declared.answers.Said.TheVariants.{Done}
 use Rattle.console.specs.declared.answers.Answer.{Answer}
 use Rattle.console.specs.declared.call.Call.{Call}
 use Rattle.console.specs.declared.call.Call.TheVariants.{Set, Clear, Recall, Next, Wait}
@@ -14,6 +15,7 @@ use Rattle.console.specs.Showing.{books_show, ShowsHeld, FindsNearest, OnlyLooks
 use Rattle.console.specs.Checks.{fits}
 use Rattle.console.specs.Opening.{Opens}
 use Rattle.console.specs.Calls.{Replies}
+use Rattle.console.specs.Laws.{ShowSame}
 use Rattle.rehearsal.specs.declared.line.Line.{Line}
 use Rattle.rehearsal.specs.declared.account.Seats.{Seats}
 use Rattle.rehearsal.specs.Accounts.{Run, Past, first_calls, Played, Performed, Holds, HoldsFromBlank, BlankCase}
@@ -88,10 +90,6 @@ Sound r = Unworn r.before.part r.seats
 abbrev pub past : List Call → Run → Desk → Past
 past calls r start = record { showed = books_show start; calls = calls; lines = r.lines }
 
--- Books that show the same at each of the n positions.
-abbrev pub ShowSame : ℕ → Desk → Desk → Type 0
-ShowSame n d e = (p : ℕ) → 1 ≤ p → p ≤ n → books_show d p ≡ books_show e p
-
 -- books that show nothing at each of the n positions
 abbrev pub ShowNothing : ℕ → Desk → Type 0
 ShowNothing n d = (p : ℕ) → 1 ≤ p → p ≤ n → books_show d p ≡ None
@@ -121,6 +119,7 @@ pub record Promise (calls : List Call) (quick slow : Run) : Type 0 where
 -- A console made anew over the same part and opened again is the one that was, whenever quiet answers yes: the state is in the
 -- part. Whatever was opened, blank or not, and whatever calls were made.
 abbrev pub SameAgain : Type 0
-SameAgain = (m : Meaning) (a b us : ℕ) (start e : Desk) (calls : List Call) (log : List Line)
-    → Lawful m → Opens (closed m) a b (Ok us) start → Lawful start.part → Played start calls log e → is_quiet e ≡ true
-    → (r : Result ℕ ConsoleFault) (again : Desk) → Opens (closed e.part) a b r again → (r ≡ Ok 0) × (again ≡ e)
+SameAgain = (m : Meaning) (a b : ℕ) (x : Answer) (start e : Desk) (calls : List Call) (log : List Line)
+    → Lawful m → Opens (closed m) a b (Ok x) start → Lawful start.part → Played start calls log e → is_quiet e ≡ true
+    → (r : Result Answer ConsoleFault) (again : Desk) → Opens (closed e.part) a b r again
+    → (r ≡ Ok (record { said = Done; us = 0 })) × (again ≡ e)

@@ -8,7 +8,7 @@ use Rattle.rehearsal.specs.declared.row.Row.{Row}
 use Rattle.rehearsal.specs.declared.row.Side.{Side}
 use Rattle.rehearsal.specs.declared.row.Side.TheVariants.{Quick, Slow}
 
--- a line that is not written yet: what a console answers that is not open
+-- a line that is not written yet: as a closed console answers a wait
 abbrev pub unwritten : Line
 unwritten = record { before = 0; after = 0; reply = Err (no_place OutOfTurn 0) }
 

@@ -1,4 +1,4 @@
-use fault::ConsoleFault;
+use crate::line::Line;
 
 /// The two blocks of a part on which a console is opened.
 #[derive(Clone, Copy)]
@@ -7,17 +7,9 @@ pub struct Seats {
     pub second: u32,
 }
 
-/// How a console was opened: the answer, and the part's clock before and after it.
-#[derive(Clone, Copy)]
-pub struct Opening {
-    pub before: u32,
-    pub after: u32,
-    pub reply: Result<u32, ConsoleFault>,
-}
-
 /// How the two consoles of a rehearsal were opened.
 #[derive(Clone, Copy)]
 pub struct Openings {
-    pub quick: Opening,
-    pub slow: Opening,
+    pub quick: Line,
+    pub slow: Line,
 }

@@ -3,7 +3,7 @@ ghost use Rattle.console.specs.Opening.{Opens};
 ghost use Rattle.rehearsal.specs.Promises.{SameAgain};
 
 use crate::account::Seats;
-use console::Console;
+use console::{Answer, Console};
 use fault::ConsoleFault;
 use part::Part;
 
@@ -12,7 +12,7 @@ use part::Part;
 pub fn reopen<P: Part + Drop>(
     console: Console<P>,
     on: Seats,
-) -> (Console<P>, Result<u32, ConsoleFault>)
+) -> (Console<P>, Result<Answer, ConsoleFault>)
     ensures again { Opens (closed console.part) on.first on.second result.1 result.0 }
     // It is the console that was, if quiet answered yes.
     ensures law { SameAgain }

@@ -7,7 +7,7 @@ mod line;
 mod row;
 mod together;
 
-pub use account::{Opening, Openings, Seats};
+pub use account::{Openings, Seats};
 pub use again::reopen;
 pub use line::Line;
 pub use row::Row;

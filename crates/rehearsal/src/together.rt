@@ -1,55 +1,24 @@
 ghost use Rattle.std.specs.Prelude.{◌≡◌};
 ghost use Rattle.rehearsal.specs.Rows.{calls_of, lines_of, quick_lines, slow_lines, other};
-ghost use Rattle.rehearsal.specs.Accounts.{run, Plays, OpensOnce, Performed};
+ghost use Rattle.rehearsal.specs.Accounts.{run, Performed};
 ghost use Rattle.rehearsal.specs.Promises.{Promise};
 ghost use Rattle.rehearsal.specs.Examples.{WorkedExamples};
 
-use crate::account::{Opening, Openings, Seats};
-use crate::line::Line;
+use crate::account::{Openings, Seats};
+use crate::line::{Act, Line};
 use crate::row::{Row, Side};
-use console::{Call, Console};
+use console::Console;
 use part::Part;
 
-/// Opens a console, and reads the clock before and after.
-fn open_once<P: Part + Drop>(console: &mut Console<P>, on: Seats) -> Opening
-    ensures { OpensOnce console.old on result console.new }
-{
-    let before = console.clock();
-    let reply = console.open(on.first, on.second);
-    Opening {
-        before,
-        after: console.clock(),
-        reply,
-    }
-}
-
-/// Makes one call, and reads the clock before and after.
-fn perform_once<P: Part + Drop>(console: &mut Console<P>, call: Call) -> Line
-    ensures { Plays console.old call result console.new }
-{
-    let before = console.clock();
-    let reply = console.perform(call);
-    Line {
-        before,
-        after: console.clock(),
-        reply,
-    }
-}
-
 /// Opens a console and makes the calls of the rows on it, also where the opening is refused. Its lines go to one side of the rows.
-fn play<P: Part + Drop>(
-    console: &mut Console<P>,
-    on: Seats,
-    rows: &mut [Row],
-    side: Side,
-) -> Opening
+fn play<P: Part + Drop>(console: &mut Console<P>, on: Seats, rows: &mut [Row], side: Side) -> Line
     ensures account { Performed (calls_of rows.old) (run console.old on result (lines_of side rows.new) console.new) }
     ensures calls { calls_of rows.new ≡ calls_of rows.old }
     ensures beside { lines_of (other side) rows.new ≡ lines_of (other side) rows.old }
 {
-    let opening = open_once(console, on);
+    let opening = Act::Open(on).play(console);
     for row in rows.iter_mut() {
-        let line = perform_once(console, row.call);
+        let line = Act::Call(row.call).play(console);
         *row = row.with(side, line);
     }
     opening

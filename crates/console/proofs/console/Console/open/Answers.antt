@@ -2,6 +2,7 @@ use Rattle.std.proofs.Common.{ℕ, Some, Ok, Err, sym, refl, ap, ◌∙◌, subs
 use Rattle.std.proofs.lemmas.Result.{err_from_is_err_and}
 use Rattle.fault.specs.declared.faults.ConsoleFault.{ConsoleFault}
 use Rattle.part.specs.Neighbours.{elapsed}
+use Rattle.console.specs.declared.answers.Said.TheVariants.{Done}
 use Rattle.console.specs.Desks.{Desk, desk}
 use Rattle.console.specs.Opening.{Opens}
 use Rattle.console.proofs.Calling.{opens_already, opens_done, opens_refused}
@@ -25,7 +26,7 @@ returns-in_err-books g c =
 pub returns : goal.returns
 returns g c =
     let n = g.P.Part.means c.open.new.part in
-    subst (λ (d : Desk). Opens d c.args.a c.args.b (Ok c.since.result) (desk n (Some c.in_ok-books.books))) c.self.view_is
+    subst (λ (d : Desk). Opens d c.args.a c.args.b (Ok (record { said = Done; us = c.since.result })) (desk n (Some c.in_ok-books.books))) c.self.view_is
     (opens_done (g.P.Part.means c.self.inside.part) n c.self.inside.books (Some c.in_ok-books.books)
-    c.args.a c.args.b (Ok c.in_ok-books.books) _ (sym c.is_some.ensures ∙ c.if-is_some.false) c.in_ok-books.ensures
-    (ap Ok c.since.ensures ∙ ap (λ (x : ℕ). Ok (elapsed x n.clock)) c.clock-before.ensures) refl)
+    c.args.a c.args.b c.since.result (Ok c.in_ok-books.books) _ (sym c.is_some.ensures ∙ c.if-is_some.false) c.in_ok-books.ensures
+    (c.since.ensures ∙ ap (λ (x : ℕ). elapsed x n.clock) c.clock-before.ensures) refl refl)
