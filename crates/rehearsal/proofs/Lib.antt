@@ -3,3 +3,4 @@ pub mod Playing
 pub mod Listing
 pub mod Promised
 pub mod Worked
+pub mod OnChip

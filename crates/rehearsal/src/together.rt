@@ -11,7 +11,12 @@ use console::Console;
 use part::Part;
 
 /// Opens a console and makes the calls of the rows on it, also where the opening is refused. Its lines go to one side of the rows.
-fn play<P: Part + Drop>(console: &mut Console<P>, on: Seats, rows: &mut [Row], side: Side) -> Line
+pub(crate) fn play<P: Part + Drop>(
+    console: &mut Console<P>,
+    on: Seats,
+    rows: &mut [Row],
+    side: Side,
+) -> Line
     ensures account { Performed (calls_of rows.old) (run console.old on result (lines_of side rows.new) console.new) }
     ensures calls { calls_of rows.new ≡ calls_of rows.old }
     ensures beside { lines_of (other side) rows.new ≡ lines_of (other side) rows.old }
