@@ -1,15 +1,33 @@
 // Worked examples of a console on the bench chip, whose books are blocks 1 and 2: what the calls leave in the cells.
-use chip::{Chip, Setup};
-use console::{Console, Said};
+use chip::Setup;
+use console::{Call, Console, Said};
 use part::{Part, Standing, Turn};
-use tc58::{DrivenChip, driven};
+use rehearsal::{Row, console_on_bench, play_on_bench};
+use tc58::DrivenChip;
 use workbench::Trouble;
+
+const SET: Call = Call::Set {
+    position: 3,
+    stops: 1,
+};
+
+const CLEAR: Call = Call::Clear { position: 3 };
 
 // A console that is open on blank books.
 fn opened(rt: &HostRuntime, setup: Setup) -> Result<Console<DrivenChip>, Trouble> {
-    let mut console = Console::new(driven(Chip::blank(rt.alloc(), setup)?));
+    let mut console = console_on_bench(rt.alloc(), setup)?;
     console.open(1, 2)?;
     Ok(console)
+}
+
+// The chip after the calls of an example, each accepted.
+fn played(rt: &HostRuntime, setup: Setup, rows: &mut [Row]) -> Result<DrivenChip, Trouble> {
+    let (console, opening) = play_on_bench(rt.alloc(), setup, rows)?;
+    opening.reply?;
+    for row in rows.iter() {
+        row.quick.reply?;
+    }
+    Ok(console.into_part())
 }
 
 // Prints what the cells hold, and says whether it is what they should.
@@ -27,20 +45,15 @@ fn cells(rt: &HostRuntime, part: &mut DrivenChip, expected: &[(u32, u8)]) -> Res
 
 // One set, and a clear after it.
 pub fn set_and_clear(rt: &HostRuntime, setup: Setup) -> Result<(), Trouble> {
-    let mut console = opened(rt, setup)?;
-    console.set(3, 1)?;
+    let mut part = played(rt, setup, &mut [Row::of(SET)])?;
     print!(rt; "set 3 to 1:")?;
-    let mut part = console.into_part();
     cells(
         rt,
         &mut part,
         &[(0x4C8, 0x00), (0x4CE, 0x00), (0x4CF, 0x01), (0x4C0, 0xFE)],
     )?;
-    let mut console = opened(rt, setup)?;
-    console.set(3, 1)?;
-    console.clear(3)?;
+    let mut part = played(rt, setup, &mut [Row::of(SET), Row::of(CLEAR)])?;
     print!(rt; "set 3 to 1, clear 3:")?;
-    let mut part = console.into_part();
     cells(
         rt,
         &mut part,
