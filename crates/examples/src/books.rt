@@ -1,10 +1,14 @@
 // Worked examples of a console on the bench chip, whose books are blocks 1 and 2: what the calls leave in the cells.
-use chip::Setup;
+ghost use Rattle.std.specs.Prelude.{IfOk};
+ghost use Rattle.rehearsal.specs.Rows.{calls_of};
+ghost use Rattle.examples.specs.Told.{AsTold};
+
 use console::{Call, Console, Said};
 use part::{Part, Standing, Turn};
 use rehearsal::{Row, console_on_bench, play_on_bench};
+use std::alloc::Global;
 use tc58::DrivenChip;
-use workbench::Trouble;
+use workbench::{BENCH_CHIP, Trouble};
 
 const SET: Call = Call::Set {
     position: 3,
@@ -14,19 +18,27 @@ const SET: Call = Call::Set {
 const CLEAR: Call = Call::Clear { position: 3 };
 
 // A console that is open on blank books.
-fn opened(rt: &HostRuntime, setup: Setup) -> Result<Console<DrivenChip>, Trouble> {
-    let mut console = console_on_bench(rt.alloc(), setup)?;
+fn opened(rt: &HostRuntime) -> Result<Console<DrivenChip>, Trouble> {
+    let mut console = console_on_bench(rt.alloc(), BENCH_CHIP)?;
     console.open(1, 2)?;
     Ok(console)
 }
 
-// The chip after the calls of an example, each accepted.
-fn played(rt: &HostRuntime, setup: Setup, rows: &mut [Row]) -> Result<DrivenChip, Trouble> {
-    let (console, opening) = play_on_bench(rt.alloc(), setup, rows)?;
-    opening.reply?;
-    for row in rows.iter() {
+// Stops at a call that was refused.
+fn accepted(rows: &[Row]) -> Result<(), Trouble> {
+    for row in rows {
         row.quick.reply?;
     }
+    Ok(())
+}
+
+// The chip after the calls of an example, each accepted. Its cells are as the table of the examples says.
+fn played(heap: Global, rows: &mut [Row]) -> Result<DrivenChip, Trouble>
+    ensures { IfOk result (λ part. AsTold (calls_of rows.old) (⟦<DrivenChip as Part>⟧.means part)) }
+{
+    let (console, opening) = play_on_bench(heap, BENCH_CHIP, rows)?;
+    opening.reply?;
+    accepted(rows)?;
     Ok(console.into_part())
 }
 
@@ -44,15 +56,15 @@ fn cells(rt: &HostRuntime, part: &mut DrivenChip, expected: &[(u32, u8)]) -> Res
 }
 
 // One set, and a clear after it.
-pub fn set_and_clear(rt: &HostRuntime, setup: Setup) -> Result<(), Trouble> {
-    let mut part = played(rt, setup, &mut [Row::of(SET)])?;
+pub fn set_and_clear(rt: &HostRuntime) -> Result<(), Trouble> {
+    let mut part = played(rt.alloc(), &mut [Row::of(SET)])?;
     print!(rt; "set 3 to 1:")?;
     cells(
         rt,
         &mut part,
         &[(0x4C8, 0x00), (0x4CE, 0x00), (0x4CF, 0x01), (0x4C0, 0xFE)],
     )?;
-    let mut part = played(rt, setup, &mut [Row::of(SET), Row::of(CLEAR)])?;
+    let mut part = played(rt.alloc(), &mut [Row::of(SET), Row::of(CLEAR)])?;
     print!(rt; "set 3 to 1, clear 3:")?;
     cells(
         rt,
@@ -62,8 +74,8 @@ pub fn set_and_clear(rt: &HostRuntime, setup: Setup) -> Result<(), Trouble> {
 }
 
 // Eight sets at one position change the books, and the old one is being erased.
-pub fn eight_sets(rt: &HostRuntime, setup: Setup) -> Result<(), Trouble> {
-    let mut console = opened(rt, setup)?;
+pub fn eight_sets(rt: &HostRuntime) -> Result<(), Trouble> {
+    let mut console = opened(rt)?;
     for stops in 1..9u64 {
         console.set(3, stops)?;
     }
@@ -81,8 +93,8 @@ pub fn eight_sets(rt: &HostRuntime, setup: Setup) -> Result<(), Trouble> {
 }
 
 // The last position and the most stops.
-pub fn last_position(rt: &HostRuntime, setup: Setup) -> Result<(), Trouble> {
-    let mut console = opened(rt, setup)?;
+pub fn last_position(rt: &HostRuntime) -> Result<(), Trouble> {
+    let mut console = opened(rt)?;
     console.set(7, 0x7FFF_FFFF_FFFF_FFFF)?;
     let verdict = match console.recall(7)?.said {
         Said::Shows(Some(0x7FFF_FFFF_FFFF_FFFF)) => "as it should be",
