@@ -1,7 +1,8 @@
 // Worked examples of a console on the bench chip, whose books are blocks 1 and 2: what the calls leave in the cells.
-ghost use Rattle.std.specs.Prelude.{IfOk};
+ghost use Rattle.std.specs.Prelude.{[], ◌∷◌, IfOk};
+ghost use Rattle.console.specs.declared.call.Call.TheVariants.{Set, Clear};
 ghost use Rattle.rehearsal.specs.Rows.{calls_of};
-ghost use Rattle.examples.specs.Told.{AsTold};
+ghost use Rattle.examples.specs.Told.{AsTold, Listed};
 
 use console::{Call, Console, Said};
 use part::{Part, Standing, Turn};
@@ -9,13 +10,6 @@ use rehearsal::{Row, console_on_bench, play_on_bench};
 use std::alloc::Global;
 use tc58::DrivenChip;
 use workbench::{BENCH_CHIP, Trouble};
-
-const SET: Call = Call::Set {
-    position: 3,
-    stops: 1,
-};
-
-const CLEAR: Call = Call::Clear { position: 3 };
 
 // A console that is open on blank books.
 fn opened(rt: &HostRuntime) -> Result<Console<DrivenChip>, Trouble> {
@@ -42,6 +36,31 @@ fn played(heap: Global, rows: &mut [Row]) -> Result<DrivenChip, Trouble>
     Ok(console.into_part())
 }
 
+// The chip after the first example.
+#[tactic(auto, using(crate::proofs::OnBenchChip::set_listed))]
+fn after_set(heap: Global) -> Result<DrivenChip, Trouble>
+    ensures { IfOk result (λ part. Listed (Set 3 1 ∷ []) (⟦<DrivenChip as Part>⟧.means part)) }
+{
+    let set = Call::Set {
+        position: 3,
+        stops: 1,
+    };
+    played(heap, &mut [Row::of(set)])
+}
+
+// The chip after the second.
+#[tactic(auto, using(crate::proofs::OnBenchChip::clear_listed))]
+fn after_clear(heap: Global) -> Result<DrivenChip, Trouble>
+    ensures { IfOk result (λ part. Listed (Set 3 1 ∷ Clear 3 ∷ []) (⟦<DrivenChip as Part>⟧.means part)) }
+{
+    let set = Call::Set {
+        position: 3,
+        stops: 1,
+    };
+    let clear = Call::Clear { position: 3 };
+    played(heap, &mut [Row::of(set), Row::of(clear)])
+}
+
 // Prints what the cells hold, and says whether it is what they should.
 fn cells(rt: &HostRuntime, part: &mut DrivenChip, expected: &[(u32, u8)]) -> Result<(), Trouble> {
     let mut right = true;
@@ -57,14 +76,14 @@ fn cells(rt: &HostRuntime, part: &mut DrivenChip, expected: &[(u32, u8)]) -> Res
 
 // One set, and a clear after it.
 pub fn set_and_clear(rt: &HostRuntime) -> Result<(), Trouble> {
-    let mut part = played(rt.alloc(), &mut [Row::of(SET)])?;
+    let mut part = after_set(rt.alloc())?;
     print!(rt; "set 3 to 1:")?;
     cells(
         rt,
         &mut part,
         &[(0x4C8, 0x00), (0x4CE, 0x00), (0x4CF, 0x01), (0x4C0, 0xFE)],
     )?;
-    let mut part = played(rt.alloc(), &mut [Row::of(SET), Row::of(CLEAR)])?;
+    let mut part = after_clear(rt.alloc())?;
     print!(rt; "set 3 to 1, clear 3:")?;
     cells(
         rt,
