@@ -1,15 +1,64 @@
 // Worked examples of a console on the bench chip, whose books are blocks 1 and 2: what the calls leave in the cells.
-use chip::{Chip, Setup};
-use console::{Console, Said};
+ghost use Rattle.std.specs.Prelude.{[], ◌∷◌, IfOk};
+ghost use Rattle.console.specs.declared.call.Call.TheVariants.{Set, Clear};
+ghost use Rattle.rehearsal.specs.Rows.{calls_of};
+ghost use Rattle.examples.specs.Told.{AsTold, Listed};
+
+use console::{Call, Console, Said};
 use part::{Part, Standing, Turn};
-use tc58::{DrivenChip, driven};
-use workbench::Trouble;
+use rehearsal::{Row, console_on_bench, play_on_bench};
+use std::alloc::Global;
+use tc58::DrivenChip;
+use workbench::{BENCH_CHIP, Trouble};
 
 // A console that is open on blank books.
-fn opened(rt: &HostRuntime, setup: Setup) -> Result<Console<DrivenChip>, Trouble> {
-    let mut console = Console::new(driven(Chip::blank(rt.alloc(), setup)?));
+fn opened(rt: &HostRuntime) -> Result<Console<DrivenChip>, Trouble> {
+    let mut console = console_on_bench(rt.alloc(), BENCH_CHIP)?;
     console.open(1, 2)?;
     Ok(console)
+}
+
+// Stops at a call that was refused.
+fn accepted(rows: &[Row]) -> Result<(), Trouble> {
+    for row in rows {
+        row.quick.reply?;
+    }
+    Ok(())
+}
+
+// The chip after the calls of an example, each accepted. Its cells are as the table of the examples says.
+fn played(heap: Global, rows: &mut [Row]) -> Result<DrivenChip, Trouble>
+    ensures { IfOk result (λ part. AsTold (calls_of rows.old) (⟦<DrivenChip as Part>⟧.means part)) }
+{
+    let (console, opening) = play_on_bench(heap, BENCH_CHIP, rows)?;
+    opening.reply?;
+    accepted(rows)?;
+    Ok(console.into_part())
+}
+
+// The chip after the first example.
+#[tactic(auto, using(crate::proofs::OnBenchChip::set_listed))]
+fn after_set(heap: Global) -> Result<DrivenChip, Trouble>
+    ensures { IfOk result (λ part. Listed (Set 3 1 ∷ []) (⟦<DrivenChip as Part>⟧.means part)) }
+{
+    let set = Call::Set {
+        position: 3,
+        stops: 1,
+    };
+    played(heap, &mut [Row::of(set)])
+}
+
+// The chip after the second.
+#[tactic(auto, using(crate::proofs::OnBenchChip::clear_listed))]
+fn after_clear(heap: Global) -> Result<DrivenChip, Trouble>
+    ensures { IfOk result (λ part. Listed (Set 3 1 ∷ Clear 3 ∷ []) (⟦<DrivenChip as Part>⟧.means part)) }
+{
+    let set = Call::Set {
+        position: 3,
+        stops: 1,
+    };
+    let clear = Call::Clear { position: 3 };
+    played(heap, &mut [Row::of(set), Row::of(clear)])
 }
 
 // Prints what the cells hold, and says whether it is what they should.
@@ -26,21 +75,16 @@ fn cells(rt: &HostRuntime, part: &mut DrivenChip, expected: &[(u32, u8)]) -> Res
 }
 
 // One set, and a clear after it.
-pub fn set_and_clear(rt: &HostRuntime, setup: Setup) -> Result<(), Trouble> {
-    let mut console = opened(rt, setup)?;
-    console.set(3, 1)?;
+pub fn set_and_clear(rt: &HostRuntime) -> Result<(), Trouble> {
+    let mut part = after_set(rt.alloc())?;
     print!(rt; "set 3 to 1:")?;
-    let mut part = console.into_part();
     cells(
         rt,
         &mut part,
         &[(0x4C8, 0x00), (0x4CE, 0x00), (0x4CF, 0x01), (0x4C0, 0xFE)],
     )?;
-    let mut console = opened(rt, setup)?;
-    console.set(3, 1)?;
-    console.clear(3)?;
+    let mut part = after_clear(rt.alloc())?;
     print!(rt; "set 3 to 1, clear 3:")?;
-    let mut part = console.into_part();
     cells(
         rt,
         &mut part,
@@ -49,8 +93,8 @@ pub fn set_and_clear(rt: &HostRuntime, setup: Setup) -> Result<(), Trouble> {
 }
 
 // Eight sets at one position change the books, and the old one is being erased.
-pub fn eight_sets(rt: &HostRuntime, setup: Setup) -> Result<(), Trouble> {
-    let mut console = opened(rt, setup)?;
+pub fn eight_sets(rt: &HostRuntime) -> Result<(), Trouble> {
+    let mut console = opened(rt)?;
     for stops in 1..9u64 {
         console.set(3, stops)?;
     }
@@ -68,8 +112,8 @@ pub fn eight_sets(rt: &HostRuntime, setup: Setup) -> Result<(), Trouble> {
 }
 
 // The last position and the most stops.
-pub fn last_position(rt: &HostRuntime, setup: Setup) -> Result<(), Trouble> {
-    let mut console = opened(rt, setup)?;
+pub fn last_position(rt: &HostRuntime) -> Result<(), Trouble> {
+    let mut console = opened(rt)?;
     console.set(7, 0x7FFF_FFFF_FFFF_FFFF)?;
     let verdict = match console.recall(7)?.said {
         Said::Shows(Some(0x7FFF_FFFF_FFFF_FFFF)) => "as it should be",

@@ -37,7 +37,7 @@ fn main(rt: HostRuntime) -> Result<(), Trouble> {
     for example in EXAMPLES {
         run(&rt, example)?;
     }
-    books::set_and_clear(&rt, BENCH_CHIP)?;
-    books::eight_sets(&rt, BENCH_CHIP)?;
-    books::last_position(&rt, BENCH_CHIP)
+    books::set_and_clear(&rt)?;
+    books::eight_sets(&rt)?;
+    books::last_position(&rt)
 }
