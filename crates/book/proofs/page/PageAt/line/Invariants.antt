@@ -1,7 +1,7 @@
 use Rattle.std.proofs.Common.{◌≡◌, ◌*◌, ◌^◌, ◌<◌, None}
 use Rattle.book.specs.Pages.{spelled}
 use Rattle.book.specs.Reading.{peeks_no}
-use Rattle.book.proofs.read.line.Given as goal
+use Rattle.book.proofs.page.PageAt.line.Given as goal
 
 abbrev pub invariant-loop-i : goal.invariant-loop-i
 invariant-loop-i g l =

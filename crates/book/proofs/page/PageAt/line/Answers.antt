@@ -4,9 +4,9 @@ use Rattle.fault.specs.declared.faults.PartFault.{PartFault}
 use Rattle.part.specs.Meaning.{Meaning, cell}
 use Rattle.part.specs.Calls.{answer, peek_no}
 use Rattle.book.specs.Pages.{spelled}
-use Rattle.book.specs.Reading.{unless}
+use Rattle.book.specs.Reading.{unless, peeks_no}
 use Rattle.book.proofs.Peeking.{spelled_none, peeks_none, peeks_on, peeks_off, room}
-use Rattle.book.proofs.read.line.Goals as goal
+use Rattle.book.proofs.page.PageAt.line.Goals as goal
 
 pub loop-i-init : goal.loop-i-init
 loop-i-init g c = (refl, peeks_none _ _, sym (spelled_none _ _), lit< tt)
@@ -14,7 +14,7 @@ loop-i-init g c = (refl, peeks_none _ _, sym (spelled_none _ _), lit< tt)
 pub returns-in_err-byte : goal.returns-in_err-byte
 returns-in_err-byte g c =
     let m = g.P.Part.means c.args.part.now in
-    let at = c.args.at in
+    let at = c.line_start-at.result in
     let i = c.loop-i.i in
     let e = c.loop-i.invariant.0 in
     let p = err_from_is_err_and c.from_residual.result c.from_residual.ensures.1 in
@@ -24,7 +24,8 @@ returns-in_err-byte g c =
     record {
       answer =
           p.1 ∙ ap Err p.2
-          ∙ sym (ap (λ (o : Option PartFault). unless o (spelled m.cells at 8)) (peeks_off m at i f (omega arith) c.loop-i.invariant.1 a));
+          ∙ sym (ap (λ (o : Option PartFault). unless o (spelled m.cells at 8)) (peeks_off m at i f (omega arith) c.loop-i.invariant.1 a))
+          ∙ ap (λ (x : ℕ). unless (peeks_no m x 8) (spelled m.cells x 8)) c.line_start-at.ensures;
       same = c.peek.ensures.same ∙ e;
     }
 
@@ -37,7 +38,7 @@ overflow_add-stops g c = omega (arith, (room c.loop-i.i c.loop-i.stops c.in_ok-b
 pub loop-i-preserved : goal.loop-i-preserved
 loop-i-preserved g c =
     let m = g.P.Part.means c.args.part.now in
-    let at = c.args.at in
+    let at = c.line_start-at.result in
     let i = c.loop-i.i in
     let e = c.loop-i.invariant.0 in
     let a : answer (peek_no m (at + i)) (at + i) (cell m (at + i)) ≡ Ok c.in_ok-byte.byte =
