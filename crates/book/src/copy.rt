@@ -6,6 +6,7 @@ ghost use Rattle.book.specs.Views.{pair_of};
 ghost use Rattle.book.specs.Laws.{CopyLaws};
 
 use crate::books::Books;
+use crate::fetched::Fetched;
 use fault::PartFault;
 use part::Part;
 
@@ -28,7 +29,7 @@ impl Books {
         if q == p {
             return to.fill(part, new);
         }
-        let page = self.current.page(q).read(part)?;
+        let page = self.current.page(q).read(part, &mut Fetched::none())?;
         to.fill(part, page.stops)
     }
 

@@ -10,6 +10,7 @@ ghost use Rattle.book.specs.Views.{pair_of};
 use crate::book::book_size;
 use crate::books::Books;
 use crate::copy::IN_USE;
+use crate::fetched::Fetched;
 use crate::finding::Finding;
 use crate::page::{EMPTY, ERASED, LAST_LINE, LINE, PAGE, PageAt, STOPS};
 use part::Part;
@@ -34,7 +35,7 @@ fn see_line<P: Part>(part: &mut P, page: PageAt, k: u32) -> u64
     ensures answer { result ≡ spelled (P.Part.means part.old).cells (line_at (page_at page.start page.position) k) 8 }
     ensures same { P.Part.means part.new ≡ P.Part.means part.old }
 {
-    page.line(part, k).unwrap()
+    page.line(part, &mut Fetched::none(), k).unwrap()
 }
 
 // Whether so many bytes from an address on are FFh.

@@ -77,6 +77,6 @@ impl Spot {
         ensures steps { Ran (P.Part.means part.old) (line_added (page_at (pair_of self.books).current.start self.position) tally new) result (P.Part.means part.new) }
         ensures law { WriteLaws }
     {
-        self.books.current.page(self.position).add(part, tally, new)
+        self.page().add(part, tally, new)
     }
 }

@@ -1,4 +1,5 @@
 // Worked examples of a console on the bench chip, whose books are blocks 1 and 2: what the calls leave in the cells.
+use book::Fetched;
 use chip::{Chip, Setup};
 use console::{Console, Said};
 use part::{Part, Standing, Turn};
@@ -71,12 +72,13 @@ pub fn eight_sets(rt: &HostRuntime, setup: Setup) -> Result<(), Trouble> {
 pub fn last_position(rt: &HostRuntime, setup: Setup) -> Result<(), Trouble> {
     let mut console = opened(rt, setup)?;
     console.set(7, 0x7FFF_FFFF_FFFF_FFFF)?;
-    let verdict = match console.recall(7)?.said {
+    let mut fetched = Fetched::none();
+    let verdict = match console.recall(7, &mut fetched)?.said {
         Said::Shows(Some(0x7FFF_FFFF_FFFF_FFFF)) => "as it should be",
         _ => "WRONG",
     };
     println!(rt; "position 7, 63 stops drawn: accepted, {verdict}")?;
-    let verdict = match console.next(7)?.said {
+    let verdict = match console.next(7, &mut fetched)?.said {
         Said::Finds(None) => "none, as it should be",
         _ => "WRONG",
     };
