@@ -9,7 +9,7 @@ use Rattle.part.specs.Meaning.{Meaning, size, cell, worn}
 use Rattle.part.specs.Calls.{hides, bars, peek_no, erased}
 use Rattle.book.specs.declared.page.Page.{Page}
 use Rattle.book.specs.Pages.{page_at, line_at, used, is_line, shown, page_of, blank, readable_page, readable_pages, readable_book}
-use Rattle.book.specs.Reading.{unless, fault_at, first, peeks_no, reading}
+use Rattle.book.specs.Reading.{unless, fault_at, first, peeks_no, reading, fetched_of, page_bytes}
 use Rattle.book.specs.Burning.{Ran, line_added, stops_of, will_hold, book_copied}
 use Rattle.book.specs.Pairs.{Pair, book_size}
 pub use Rattle.book.specs.Laws.{LineDone, WornRefused, CopyDone}
@@ -20,6 +20,7 @@ pub use Rattle.book.proofs.Stretches.{blank_same}
 use Rattle.book.proofs.Stretches.{blank_from, blank_part}
 pub use Rattle.book.proofs.Showing.{shown_same, page_same, pages_same, pages_at, pages_from, shown_fits}
 use Rattle.book.proofs.Showing.{line_in, BlankPage, blank_page}
+use Rattle.book.proofs.Counting.{bytes_all}
 use Rattle.book.proofs.Ground.{Lies, current_lies, spare_lies, lies_apart}
 use Rattle.book.proofs.Laying.{Ready, WornOut, granted, worn_out, worn_cause}
 use Rattle.book.proofs.Lines.{Added, added, some_line}
@@ -48,6 +49,17 @@ module _ (m : Meaning) (from k b : ℕ) (lies : Lies m from k b) (h : hides m b 
       (λ t. peeks_free (line_at at u) 8 (omega arith) (omega (arith, (line_in u t).1))) (λ _. refl) in
       ap₂ (λ (c : Option Cause) (o : Option PartFault). unless (first (fault_at c at) o) (page_of m.cells at))
       (peek_free at l (omega arith)) line
+
+  bytes_free : (at : ℕ) → from ≤ at → at + 64 ≤ from + k → page_bytes m at ≡ fetched_of (cell m at)
+  bytes_free at l g =
+      let u : ℕ = used (cell m at) in
+      bytes_all m at (peek_free at l (omega arith)) (λ t. peeks_free (line_at at u) 8 (omega arith) (omega (arith, (line_in u t).1)))
+
+pub fetches : (m : Meaning) (b : Pair) → Seated m b → hides m b.current.block ≡ false → (p : ℕ) → p ≤ b.positions
+    → page_bytes m (page_at b.current.start p) ≡ fetched_of (cell m (page_at b.current.start p))
+fetches m b s h p l =
+    bytes_free m b.current.start (book_size b.positions) b.current.block (current_lies m b s) h
+    (page_at b.current.start p) (omega arith) (omega arith)
 
 pub reads : (m : Meaning) (b : Pair) → Seated m b → hides m b.current.block ≡ false → (p : ℕ) → p ≤ b.positions
     → reading m (page_at b.current.start p) ≡ Ok (page_of m.cells (page_at b.current.start p))

@@ -9,7 +9,7 @@ use Rattle.book.specs.Burning.{Step, Ran, done, burnt, laid}
 use Rattle.book.specs.Laws.{last_line, AreBytes, ReadLaws, WriteLaws, CopyLaws}
 use Rattle.book.proofs.Stretches.{spelled_blank}
 use Rattle.book.proofs.Showing.{shown_fits}
-use Rattle.book.proofs.Effects.{reads, line_done, line_worn, line_cause, copy_done, copy_worn, copy_cause}
+use Rattle.book.proofs.Effects.{reads, fetches, line_done, line_worn, line_cause, copy_done, copy_worn, copy_cause}
 
 -- k bytes spell less than 256 ^ k, and where they are not all FFh less than all bits set
 spelled_below : (cells : List ℕ) (at k : ℕ) → AreBytes cells at k → spelled cells at k + 1 ≤ 256 ^ k
@@ -52,6 +52,7 @@ read_laws = record {
   filled = λ cells at u b f. filled_line cells at u b f;
   fits = λ cells at t. shown_fits cells at t;
   granted = λ m b s h p l. reads m b s h p l;
+  fetches = λ m b s h p l. fetches m b s h p l;
 }
 
 -- The cells after steps that are all accepted.

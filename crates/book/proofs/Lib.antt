@@ -8,6 +8,7 @@ pub mod Lines
 pub mod Changing
 pub mod Effects
 pub mod Peeking
+pub mod Counting
 pub mod Steps
 pub mod Sparing
 pub mod Copying

@@ -1,5 +1,5 @@
 -- Reading byte by byte.
-use Rattle.std.proofs.Common.{◌≡◌, ℕ, zero, suc, ◌+◌, ◌-◌, ◌*◌, ◌^◌, ◌<◌, ◌≤◌, Bool, true, false, cond, List, get_or, Some, None, Ok, Err, Option, sym, refl, ap, ◌∙◌, subst, add-one, arith, pow_mono, pow-add}
+use Rattle.std.proofs.Common.{◌≡◌, ℕ, zero, suc, ◌+◌, ◌-◌, ◌*◌, ◌^◌, ◌<◌, ◌≤◌, Bool, true, false, cond, List, get_or, Some, None, Ok, Err, Option, Result, sym, refl, ap, ◌∙◌, subst, add-one, arith, pow_mono, pow-add}
 use Rattle.fault.specs.declared.cause.Cause.{Cause}
 use Rattle.fault.specs.declared.faults.PartFault.{PartFault}
 use Rattle.part.specs.Meaning.{Meaning, cell}
@@ -75,6 +75,11 @@ unless_ok (Some f) x y e = let z : ◌≡◌ {A = ℕ} 0 1 = cc in absurd (omega
 pub unless_err : {X : Type 0} (o : Option PartFault) (x : X) (f : PartFault) → unless o x ≡ Err f → o ≡ Some f
 unless_err None x f e = let z : ◌≡◌ {A = ℕ} 0 1 = cc in absurd (omega arith)
 unless_err (Some g) x f e = cc
+
+-- what was peeked at an address that is known by another name
+pub seen_at : (m : Meaning) (a at : ℕ) {r s : Result ℕ PartFault} → a ≡ at → r ≡ answer (peek_no m a) a (cell m a) → r ≡ s
+    → answer (peek_no m at) at (cell m at) ≡ s
+seen_at m a at e r i = ap (λ (x : ℕ). answer (peek_no m x) x (cell m x)) (sym e) ∙ sym r ∙ i
 
 -- A page, by what was peeked of it.
 pub page_refused : (m : Meaning) (at : ℕ) (f : PartFault) → answer (peek_no m at) at (cell m at) ≡ Err f → reading m at ≡ Err f

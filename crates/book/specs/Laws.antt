@@ -6,7 +6,7 @@ use Rattle.fault.specs.declared.faults.PartFault.{PartFault}
 use Rattle.part.specs.Meaning.{Meaning, cell, worn, ticked}
 use Rattle.part.specs.Calls.{hides, bars}
 use Rattle.book.specs.Pages.{page_at, line_at, used, is_line, spelled, shown, page_of, blank, readable_page, readable_pages, readable_book}
-use Rattle.book.specs.Reading.{reading}
+use Rattle.book.specs.Reading.{reading, fetched_of, page_bytes}
 use Rattle.book.specs.Burning.{Step, Ran, laid, line_added, will_hold, book_copied}
 use Rattle.book.specs.Pairs.{Pair, book_size}
 use Rattle.book.specs.Seats.{Seated, SameOutside, Rewritten, StopsFit}
@@ -40,6 +40,9 @@ pub record ReadLaws : Type 0 where
   -- Unless the erasure hides the current book, each of its positions is read, as its page stands in the cells.
   pub granted : (m : Meaning) (b : Pair) → Seated m b → hides m b.current.block ≡ false
       → (p : ℕ) → p ≤ b.positions → reading m (current_page b p) ≡ Ok (page_of m.cells (current_page b p))
+  -- That takes the tally, and eight bytes more where a line is used.
+  pub fetches : (m : Meaning) (b : Pair) → Seated m b → hides m b.current.block ≡ false
+      → (p : ℕ) → p ≤ b.positions → page_bytes m (current_page b p) ≡ fetched_of (cell m (current_page b p))
 
 -- A page after one line more: it can be read and shows the new stops, or nothing; the cells of other pages are as they were.
 pub record LineDone (m : Meaning) (at : ℕ) (new : Option ℕ) (r : Result (Unit {0}) PartFault) (n : Meaning) : Type 0 where

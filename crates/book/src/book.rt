@@ -2,7 +2,7 @@ ghost use Rattle.std.specs.Prelude.{◌≡◌};
 ghost use Rattle.book.specs.Pages.{Addressable, page_at};
 ghost use Rattle.book.specs.Pairs.{book_size};
 
-use crate::page::PAGE;
+use crate::page::{PAGE, PageAt};
 
 /// A book: a block of a part that holds registrations.
 #[derive(Clone, Copy, Debug, PartialEq, Eq)]
@@ -13,12 +13,16 @@ pub struct Book {
 }
 
 impl Book {
-    // The address of a position's page.
-    pub(crate) fn address_of(self, position: u8) -> u32
+    // The page of a position.
+    pub(crate) fn page(self, position: u8) -> PageAt
         requires { Addressable (page_at self.start position) 64 }
-        ensures { result ≡ page_at self.start position }
+        ensures start { result.start ≡ self.start }
+        ensures position { result.position ≡ position }
     {
-        self.start + PAGE * u32::from(position)
+        PageAt {
+            start: self.start,
+            position,
+        }
     }
 }
 

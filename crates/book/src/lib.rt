@@ -6,6 +6,7 @@ mod book;
 mod books;
 mod change;
 mod copy;
+mod fetched;
 mod finding;
 mod open;
 mod page;
@@ -16,5 +17,6 @@ mod write;
 
 pub use book::Book;
 pub use books::Books;
+pub use fetched::Fetched;
 pub use page::{Page, STOPS};
 pub use spot::Spot;

@@ -1,5 +1,5 @@
-ghost use Rattle.std.specs.Prelude.{◌≡◌, nat_lt};
-ghost use Rattle.book.specs.Pages.{used};
+ghost use Rattle.std.specs.Prelude.{◌≡◌, ◌≤◌, nat_lt};
+ghost use Rattle.book.specs.Pages.{Addressable, page_at, line_at, used};
 
 /// What was read of a page.
 #[derive(Clone, Copy, Debug, PartialEq, Eq)]
@@ -15,6 +15,31 @@ impl Page {
         ensures { result ≡ nat_lt (used self.tally) 7 }
     {
         self.tally.trailing_zeros() < LAST_LINE
+    }
+}
+
+// Which page of which book: where the book begins, and the position.
+#[derive(Clone, Copy, Debug, PartialEq, Eq)]
+pub(crate) struct PageAt {
+    pub(crate) start: u32,
+    pub(crate) position: u8,
+    ghost fits: { Addressable (page_at start position) 64 },
+}
+
+impl PageAt {
+    // The address of its tally, with which it begins.
+    pub(crate) fn tally(self) -> u32
+        ensures { result ≡ page_at self.start self.position }
+    {
+        self.start + PAGE * u32::from(self.position)
+    }
+
+    // The address at which line k begins; behind the last line the page ends.
+    pub(crate) fn line_start(self, k: u32) -> u32
+        requires { k ≤ 8 }
+        ensures { result ≡ line_at (page_at self.start self.position) k }
+    {
+        self.tally() + LINE * k
     }
 }
 

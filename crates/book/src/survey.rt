@@ -2,7 +2,7 @@
 ghost use Rattle.std.specs.Prelude.{◌≡◌, ◌+◌, ◌*◌, ◌<◌, ◌≤◌, false, ◌||◌, ◌==◌};
 ghost use Rattle.part.specs.Meaning.{size, cell};
 ghost use Rattle.part.specs.Calls.{stands};
-ghost use Rattle.book.specs.Pages.{line_at, spelled, blank, fit_line, readable_page, readable_book};
+ghost use Rattle.book.specs.Pages.{page_at, line_at, spelled, blank, fit_line, readable_page, readable_book};
 ghost use Rattle.book.specs.Pairs.{book_size};
 ghost use Rattle.book.specs.Finding.{found};
 ghost use Rattle.book.specs.Views.{pair_of};
@@ -10,9 +10,9 @@ ghost use Rattle.book.specs.Views.{pair_of};
 use crate::book::book_size;
 use crate::books::Books;
 use crate::copy::IN_USE;
+use crate::fetched::Fetched;
 use crate::finding::Finding;
-use crate::page::{EMPTY, ERASED, LAST_LINE, LINE, PAGE, STOPS};
-use crate::read::line;
+use crate::page::{EMPTY, ERASED, LAST_LINE, LINE, PAGE, PageAt, STOPS};
 use part::Part;
 
 // A cell that can be peeked.
@@ -26,15 +26,16 @@ fn see<P: Part>(part: &mut P, at: u32) -> u8
     part.peek(at).unwrap()
 }
 
-// The number in a line that can be peeked.
+// The number in a line of a page that can be peeked.
 #[tactic(auto, using(crate::proofs::Surveying::peeks_free))]
-fn see_line<P: Part>(part: &mut P, at: u32) -> u64
+fn see_line<P: Part>(part: &mut P, page: PageAt, k: u32) -> u64
     requires still { stands (P.Part.means part.old) ≡ false }
-    requires within { at + 8 ≤ size (P.Part.means part.old) }
-    ensures answer { result ≡ spelled (P.Part.means part.old).cells at 8 }
+    requires within { page_at page.start page.position + 64 ≤ size (P.Part.means part.old) }
+    requires line { k < 8 }
+    ensures answer { result ≡ spelled (P.Part.means part.old).cells (line_at (page_at page.start page.position) k) 8 }
     ensures same { P.Part.means part.new ≡ P.Part.means part.old }
 {
-    line(part, at).unwrap()
+    page.line(part, &mut Fetched::none(), k).unwrap()
 }
 
 // Whether so many bytes from an address on are FFh.
@@ -60,23 +61,24 @@ fn is_fit(line: u64) -> bool
 }
 
 // Whether the last used line fits, if one is used.
-fn last_fits<P: Part>(part: &mut P, at: u32, used: u32) -> bool
+fn last_fits<P: Part>(part: &mut P, page: PageAt, used: u32) -> bool
     requires still { stands (P.Part.means part.old) ≡ false }
-    requires within { at + 64 ≤ size (P.Part.means part.old) }
+    requires within { page_at page.start page.position + 64 ≤ size (P.Part.means part.old) }
     requires few { used < 8 }
-    ensures answer { result ≡ (used == 0 || fit_line (spelled (P.Part.means part.old).cells (line_at at used) 8)) }
+    ensures answer { result ≡ (used == 0 || fit_line (spelled (P.Part.means part.old).cells (line_at (page_at page.start page.position) used) 8)) }
     ensures same { P.Part.means part.new ≡ P.Part.means part.old }
 {
-    used == 0 || is_fit(see_line(part, at + LINE * used))
+    used == 0 || is_fit(see_line(part, page, used))
 }
 
-// Whether the page that begins at an address can be read.
-fn is_readable<P: Part>(part: &mut P, at: u32) -> bool
+// Whether a page can be read.
+fn is_readable<P: Part>(part: &mut P, page: PageAt) -> bool
     requires still { stands (P.Part.means part.old) ≡ false }
-    requires within { at + 64 ≤ size (P.Part.means part.old) }
-    ensures answer { result ≡ readable_page (P.Part.means part.old).cells at }
+    requires within { page_at page.start page.position + 64 ≤ size (P.Part.means part.old) }
+    ensures answer { result ≡ readable_page (P.Part.means part.old).cells (page_at page.start page.position) }
     ensures same { P.Part.means part.new ≡ P.Part.means part.old }
 {
+    let at = page.tally();
     let tally = see(part, at);
     let used = tally.trailing_zeros();
     if used > LAST_LINE {
@@ -84,8 +86,8 @@ fn is_readable<P: Part>(part: &mut P, at: u32) -> bool
     }
     let whole = u32::from(tally) == 256 - (1 << used);
     let reserved = is_blank(part, at + 1, LINE - 1);
-    let last = last_fits(part, at, used);
-    let beyond = is_blank(part, at + LINE * (used + 1), LINE * (LAST_LINE - used));
+    let last = last_fits(part, page, used);
+    let beyond = is_blank(part, page.line_start(used + 1), LINE * (LAST_LINE - used));
     whole & reserved & last & beyond
 }
 
@@ -99,8 +101,12 @@ fn is_readable_book<P: Part>(part: &mut P, start: u32, positions: u8) -> bool
     if !is_blank(part, start + 1, PAGE - 1) {
         return false;
     }
-    for p in 1..u32::from(positions) + 1 {
-        if !is_readable(part, start + PAGE * p) {
+    for p in 0..positions {
+        let page = PageAt {
+            start,
+            position: p + 1,
+        };
+        if !is_readable(part, page) {
             return false;
         }
     }

@@ -1,14 +1,17 @@
-// Writing lines.
-ghost use Rattle.std.specs.Prelude.{◌≡◌, ◌<◌};
-ghost use Rattle.book.specs.Pages.{Addressable, page_at, byte_of, next_line, marked};
-ghost use Rattle.book.specs.Burning.{Ran, bytes_burnt, line_added};
+// The writer of pages.
+ghost use Rattle.std.specs.Prelude.{◌≡◌, ◌<◌, Ok};
+ghost use Rattle.book.specs.Pages.{page_at, line_at, byte_of, next_line, marked};
+ghost use Rattle.book.specs.Burning.{Ran, bytes_burnt, line_added, page_copied};
 ghost use Rattle.book.specs.Views.{pair_of};
 ghost use Rattle.book.specs.Laws.{WriteLaws};
 
-use crate::page::{LAST_LINE, LINE};
+use crate::page::{LAST_LINE, LINE, PageAt};
 use crate::spot::Spot;
 use fault::PartFault;
 use part::Part;
+
+// A tally with one line used.
+const ONE_LINE: u8 = 0xFE;
 
 // Byte i of the eight that spell a number, the highest first.
 fn byte_of(n: u64, i: u32) -> u8
@@ -16,17 +19,6 @@ fn byte_of(n: u64, i: u32) -> u8
     ensures { result ≡ byte_of n i }
 {
     ((n >> (56 - 8 * i)) % 256) as u8
-}
-
-// Burns a registration into the eight bytes of a line, first to last.
-pub(crate) fn burn_line<P: Part>(part: &mut P, at: u32, stops: u64) -> Result<(), PartFault>
-    requires { Addressable at 8 }
-    ensures { Ran (P.Part.means part.old) (bytes_burnt at stops 8) result (P.Part.means part.new) }
-{
-    for i in 0..LINE {
-        part.burn(at + i, byte_of(stops, i))?;
-    }
-    Ok(())
 }
 
 // The tally with one line more used: its lowest 1 bit is 0.
@@ -43,20 +35,39 @@ fn next_line(tally: u8) -> u32
     (tally.trailing_zeros() + 1).min(LAST_LINE)
 }
 
-// Uses one line more of the page that begins at an address: the line first, then the tally. An empty line is left as it is.
-pub(crate) fn add_line<P: Part>(
-    part: &mut P,
-    at: u32,
-    tally: u8,
-    new: Option<u64>,
-) -> Result<(), PartFault>
-    requires { Addressable at 64 }
-    ensures { Ran (P.Part.means part.old) (line_added at tally new) result (P.Part.means part.new) }
-{
-    if let Some(stops) = new {
-        burn_line(part, at + LINE * next_line(tally), stops)?;
+impl PageAt {
+    // Burns a registration into the eight bytes of a line, first to last.
+    fn burn_line<P: Part>(self, part: &mut P, k: u32, stops: u64) -> Result<(), PartFault>
+        requires { k < 8 }
+        ensures { Ran (P.Part.means part.old) (bytes_burnt (line_at (page_at self.start self.position) k) stops 8) result (P.Part.means part.new) }
+    {
+        let at = self.line_start(k);
+        for i in 0..LINE {
+            part.burn(at + i, byte_of(stops, i))?;
+        }
+        Ok(())
     }
-    part.burn(at, mark(tally))
+
+    // Uses one line more: the line first, then the tally. An empty line is left as it is.
+    fn add<P: Part>(self, part: &mut P, tally: u8, new: Option<u64>) -> Result<(), PartFault>
+        ensures { Ran (P.Part.means part.old) (line_added (page_at self.start self.position) tally new) result (P.Part.means part.new) }
+    {
+        if let Some(stops) = new {
+            self.burn_line(part, next_line(tally), stops)?;
+        }
+        part.burn(self.tally(), mark(tally))
+    }
+
+    // Writes a registration to line 1 of a blank page, or leaves the page blank.
+    pub(crate) fn fill<P: Part>(self, part: &mut P, stops: Option<u64>) -> Result<(), PartFault>
+        ensures { Ran (P.Part.means part.old) (page_copied (page_at self.start self.position) (Ok stops)) result (P.Part.means part.new) }
+    {
+        let Some(stops) = stops else {
+            return Ok(());
+        };
+        self.burn_line(part, 1, stops)?;
+        part.burn(self.tally(), ONE_LINE)
+    }
 }
 
 impl Spot {
@@ -66,11 +77,6 @@ impl Spot {
         ensures steps { Ran (P.Part.means part.old) (line_added (page_at (pair_of self.books).current.start self.position) tally new) result (P.Part.means part.new) }
         ensures law { WriteLaws }
     {
-        add_line(
-            part,
-            self.books.current.address_of(self.position),
-            tally,
-            new,
-        )
+        self.page().add(part, tally, new)
     }
 }

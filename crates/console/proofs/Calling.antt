@@ -45,6 +45,12 @@ refused_by check Does d o p f r i x s =
     let c = checked_err (check o) p f x in
     subst (λ (q : Result Pair Cause). MatchResult q Does (λ cause. Refuses d (no_place cause p) r d)) (sym c.1 ∙ ap check i) (s ∙ ap Err c.2, refl)
 
+pub fetched_none : (check : Option Pair → Result Pair Cause) (Does : Pair → Type 0) (d : Desk) (o : Option Pair) (p : ℕ) (f : ConsoleFault) (n : ℕ)
+    → o ≡ d.books → Checked (check o) p (Err f) → MatchResult (check d.books) Does (λ cause. n ≡ n)
+fetched_none check Does d o p f n i x =
+    let c = checked_err (check o) p f x in
+    subst (λ (q : Result Pair Cause). MatchResult q Does (λ cause. n ≡ n)) (sym c.1 ∙ ap check i) refl
+
 pub made_by : (check : Option Pair → Result Pair Cause) (Does : Pair → Type 0) (No : Cause → Type 0) (d : Desk) (o : Option Pair) (p : ℕ) (s : Spot)
     → o ≡ d.books → Checked (check o) p (Ok s) → (s.position ≡ p → Does (pair_of s.books)) → MatchResult (check d.books) Does No
 made_by check Does No d o p s i x does =

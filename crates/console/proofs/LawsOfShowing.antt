@@ -1,24 +1,27 @@
 -- The laws of what the books show, from what each call does to a console that keeps its books.
-use Rattle.std.proofs.Common.{◌≡◌, ℕ, ◌≤◌, true, false, Ok, Option, Result, sym, refl, ap, ◌∙◌, subst, inl, arith}
+use Rattle.std.proofs.Common.{◌≡◌, ℕ, ◌≤◌, true, false, Some, Ok, Option, Result, sym, refl, ap, ◌∙◌, subst, inl, arith}
 use Rattle.std.specs.Prelude.{is_ok}
 use Rattle.std.proofs.lemmas.Bool.{eqb-true, eq-eqb}
-use Rattle.part.specs.Meaning.{Meaning, Lawful}
+use Rattle.part.specs.Meaning.{Meaning, cell, Lawful}
 use Rattle.book.specs.Pages.{page_at, shown}
+use Rattle.book.specs.Reading.{counted, fetched_of}
 use Rattle.book.specs.Pairs.{Pair}
 use Rattle.book.specs.Finding.{width, positions_of}
 use Rattle.fault.specs.declared.faults.ConsoleFault.{ConsoleFault}
 use Rattle.console.specs.declared.answers.Answer.{Answer}
+use Rattle.console.specs.declared.answers.Said.TheVariants.{Finds}
 use Rattle.console.specs.declared.call.Call.{Call}
 use Rattle.console.specs.declared.call.Call.TheVariants.{Set, Clear, Recall, Next}
 use Rattle.console.specs.Desks.{Desk, opened}
 use Rattle.console.specs.Calls.{Replies}
 use Rattle.console.specs.Opening.{Opens}
-use Rattle.console.specs.Showing.{books_show, OnlyLooks}
-use Rattle.console.specs.Laws.{OtherBook, is_blank, is_erased, is_spoilt, InOrder, ShowSame, StaysInOrder, OrderLaw, SetLaw, ClearLaw, holds_shown, RecallLaw, NextLaw}
+use Rattle.console.specs.Looking.{RecallFetches, NextFetches}
+use Rattle.console.specs.Showing.{books_show, said, OnlyLooks}
+use Rattle.console.specs.Laws.{pages_bytes, how_far, OtherBook, is_blank, is_erased, is_spoilt, InOrder, ShowSame, StaysInOrder, OrderLaw, SetLaw, ClearLaw, holds_shown, RecallLaw, NextLaw}
 use Rattle.console.proofs.Tables.{Table, after}
 use Rattle.console.proofs.Keeping.{Rest, ready, erasing, spoilt, Keeps, Goes}
-use Rattle.console.proofs.Looks.{after_look}
-use Rattle.console.proofs.Telling.{shows_held, finds_nearest}
+use Rattle.console.proofs.Looks.{after_look, recall_fetches, next_fetches}
+use Rattle.console.proofs.Telling.{shows_held, finds_nearest, found_is}
 use Rattle.console.proofs.Going.{goes, took, keeps_opened}
 
 -- the two ways of saying how the other book is
@@ -110,6 +113,20 @@ module _ (d : Desk) (o : InOrder d) where
   by_no : (c : Call) (r : Result Answer ConsoleFault) (q : ℕ) → is_ok r ≡ false → after c (is_ok r) (books_show d) q ≡ books_show d q
   by_no c r q t = ap (λ (y : _). after c y (books_show d) q) t
 
+  -- what a recall and a next fetch
+  recall_bytes : (p before now : ℕ) → RecallFetches d p before now → 1 ≤ p → p ≤ b.positions
+      → now ≡ counted before (fetched_of (cell m (page_at b.current.start p)))
+  recall_bytes p before now x l h =
+      recall_fetches m one two (books_show d) m b o.lawful its_keeps p before now l h (subst (λ (y : Desk). RecallFetches y p before now) is_opened x)
+
+  next_bytes : (p before now : ℕ) (r : Result Answer ConsoleFault) (e : Desk) (position : Option ℕ) → Replies d (Next p) r e
+      → said r ≡ Some (Finds position) → NextFetches d p before now → p ≤ b.positions
+      → now ≡ counted before (pages_bytes m.cells b.current.start p (how_far position p b.positions))
+  next_bytes p before now r e position x i y h =
+      let same = found_is b.positions (books_show d) p h r ((call_goes (Next p) r e x).looks tt) position i in
+      next_fetches m one two (books_show d) m b o.lawful its_keeps p before now h (subst (λ (z : Desk). NextFetches z p before now) is_opened y)
+      ∙ ap (λ (q : Option ℕ). counted before (pages_bytes m.cells b.current.start p (how_far q p b.positions))) same
+
 pub order_law : OrderLaw
 unfolding Opens
 order_law = record {
@@ -138,6 +155,7 @@ recall_law = record {
       shows_held (holds_shown d) o.books.positions (books_show d) p l h refl r ((call_goes d o (Recall p) r e x).looks tt);
   same = λ d o p r e x. looks_same d o (Recall p) tt r e x;
   prompt = λ d o p r e x. (call_goes d o (Recall p) r e x).prompt tt;
+  fetches = λ d o p before now x l h. recall_bytes d o p before now x l h;
 }
 
 pub next_law : NextLaw
@@ -146,4 +164,5 @@ next_law = record {
       finds_nearest (holds_shown d) o.books.positions (books_show d) p h (λ _ _ _. refl) r ((call_goes d o (Next p) r e x).looks tt);
   same = λ d o p r e x. looks_same d o (Next p) tt r e x;
   prompt = λ d o p r e x. (call_goes d o (Next p) r e x).prompt tt;
+  fetches = λ d o p before now r e position x i y h. next_bytes d o p before now r e position x i y h;
 }

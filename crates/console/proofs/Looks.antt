@@ -1,20 +1,20 @@
 -- What recall and next answer on a console that keeps its books, and that they leave it as it was.
-use Rattle.std.proofs.Common.{◌≡◌, ℕ, zero, suc, ◌+◌, ◌-◌, ◌<◌, ◌≤◌, Bool, true, false, cond, leb, is_some, Some, None, Ok, Err, Option, Result, sym, refl, ap, ◌∙◌, subst, ap₂, arith}
+use Rattle.std.proofs.Common.{◌≡◌, ℕ, zero, suc, ◌+◌, ◌-◌, ◌<◌, ◌≤◌, Bool, true, false, cond, leb, is_some, Some, None, Ok, Err, Option, Result, sym, refl, ap, ◌∙◌, subst, ap₂, ◌⊎◌, inl, inr, arith}
 use Rattle.std.specs.Prelude.{is_ok, MatchResult}
-use Rattle.std.proofs.lemmas.Bool.{and_parts, ne_eqb, leb-true, cond-true, cond-false}
+use Rattle.std.proofs.lemmas.Bool.{and_parts, and_from, ne_eqb, leb-true, le-leb, cond-true, cond-false}
 use Rattle.fault.specs.declared.cause.Cause.TheVariants.{PositionOutside}
 use Rattle.fault.specs.declared.faults.PartFault.{PartFault}
-use Rattle.part.specs.Meaning.{Erasure, Meaning, with_erasure, ticked, Lawful}
+use Rattle.part.specs.Meaning.{Erasure, Meaning, cell, with_erasure, ticked, Lawful}
 use Rattle.part.specs.Calls.{Took, hides, can_hold, turned, HeldBy, Held, gone_on}
 use Rattle.part.proofs.Clocks.{ticked_none}
 use Rattle.part.proofs.Standings.{hides_none, hides_still}
 use Rattle.book.specs.Pages.{page_at, page_of}
-use Rattle.book.specs.Reading.{reading}
+use Rattle.book.specs.Reading.{reading, counted, fetched_of, page_bytes}
 use Rattle.book.specs.Burning.{stops_of}
 use Rattle.book.specs.Pairs.{Pair}
 use Rattle.book.proofs.Seats.{Seated}
 use Rattle.book.proofs.Ground.{seated_on}
-use Rattle.book.proofs.Effects.{reads}
+use Rattle.book.proofs.Effects.{reads, fetches}
 use Rattle.fault.specs.declared.faults.ConsoleFault.{ConsoleFault}
 use Rattle.console.specs.declared.answers.Said.{Said}
 use Rattle.console.specs.declared.answers.Said.TheVariants.{Shows, Finds}
@@ -24,9 +24,10 @@ use Rattle.console.specs.declared.call.Call.TheVariants.{Set, Clear, Recall, Nex
 use Rattle.part.specs.Neighbours.{elapsed}
 use Rattle.console.specs.Desks.{Desk, opened, moved}
 use Rattle.console.specs.Faults.{no_place, reported, Refuses}
-use Rattle.console.specs.Looking.{searched, filled_at, or_else, shows, shown, finds, found, Looks, Recalls, Nexts}
+use Rattle.console.specs.Looking.{searched, filled_at, or_else, shows, shown, finds, found, Looks, Recalls, Nexts, goes_on, searched_bytes, Fetches, RecallFetches, NextFetches}
 use Rattle.console.specs.Calls.{Replies}
 use Rattle.console.specs.Showing.{OnlyLooks, Reports}
+use Rattle.console.specs.Laws.{pages_bytes, how_far}
 use Rattle.console.proofs.Tables.{Table, look, after, filled, or_then, nearest, is_position, tells}
 use Rattle.console.proofs.Keeping.{Rest, ready, erasing, spoilt, Keeps, Goes, keeps_ticked, keeps_for}
 
@@ -36,6 +37,7 @@ record Glimpse (m : Meaning) (c : Pair) (held n : Meaning) : Type 0 where
   short : time ≤ 15
   is : n ≡ ticked m time
   page : (p : ℕ) → p ≤ c.positions → reading held (page_at c.current.start p) ≡ Ok (page_of m.cells (page_at c.current.start p))
+  bytes : (p : ℕ) → p ≤ c.positions → page_bytes held (page_at c.current.start p) ≡ fetched_of (cell m (page_at c.current.start p))
 
 -- Where no erasure stands there is nothing to hold.
 glimpse_idle : (m : Meaning) (c : Pair) (held n : Meaning) → Lawful m → Seated m c → m.erasure ≡ None → Held m held → n ≡ gone_on held
@@ -50,6 +52,9 @@ glimpse_idle m c held n l s i h g =
       page = λ p j.
           ap (λ (x : Meaning). reading x (page_at c.current.start p)) same
           ∙ reads m c s (hides_none m c.current.block (ap is_some i)) p j;
+      bytes = λ p j.
+          ap (λ (x : Meaning). page_bytes x (page_at c.current.start p)) same
+          ∙ fetches m c s (hides_none m c.current.block (ap is_some i)) p j;
     }
 
 -- A running erasure of the other book is held, and hides only that book's block.
@@ -71,6 +76,9 @@ glimpse_held m c held n left s i h g =
       page = λ p j.
           ap (λ (y : Meaning). reading y (page_at c.current.start p)) x.is
           ∙ reads still c (seated_on m _ c c.spoilt refl refl refl s) off p j;
+      bytes = λ p j.
+          ap (λ (y : Meaning). page_bytes y (page_at c.current.start p)) x.is
+          ∙ fetches still c (seated_on m _ c c.spoilt refl refl refl s) off p j;
     }
 
 -- A look, whatever state the other book is in.
@@ -167,6 +175,69 @@ module _ (o : Meaning) (a b : ℕ) (f : Table) (m : Meaning) (c : Pair) (lawful 
       both None y = refl
       both (Some q) y = refl
 
+  -- the bytes of the search, each page by its tally
+  searched_takes : (held : Meaning)
+      → ((p : ℕ) → p ≤ c.positions → reading held (page_at c.current.start p) ≡ Ok (page_of m.cells (page_at c.current.start p)))
+      → ((p : ℕ) → p ≤ c.positions → page_bytes held (page_at c.current.start p) ≡ fetched_of (cell m (page_at c.current.start p)))
+      → (p i : ℕ) → p + i ≤ c.positions
+      → searched_bytes held c.current.start p i ≡ pages_bytes m.cells c.current.start p (how_far (nearest f p i) p (p + i))
+  unfolding searched_bytes pages_bytes nearest
+  searched_takes held page bytes p zero h = ap (pages_bytes m.cells c.current.start p) (zero_far p)
+    where
+      zero_far : (p : ℕ) → 0 ≡ p + 0 - p
+      zero_far p = omega arith
+  searched_takes held page bytes p (suc i) h =
+      let here : ℕ = fetched_of (cell m (page_at c.current.start (p + suc i))) in
+      ap₂ (λ (x y : ℕ). x + y) (searched_takes held page bytes p i (omega arith))
+      (ap₂ (λ (r : Result (Option ℕ) PartFault) (n : ℕ). cond (goes_on r) n 0) (searched_all held page p i (omega arith)) (bytes (p + suc i) h))
+      ∙ by (nearest f p i) (filled_or (f (p + suc i)))
+    where
+      filled_or : (v : Option ℕ) → (filled v (p + suc i) ≡ None) ⊎ (filled v (p + suc i) ≡ Some (p + suc i))
+      filled_or None = inl refl
+      filled_or (Some stops) = inr refl
+
+      all : pages_bytes m.cells c.current.start p (p + i - p) + fetched_of (cell m (page_at c.current.start (p + suc i)))
+          ≡ pages_bytes m.cells c.current.start p (p + suc i - p)
+      all =
+          let j : p + i - p ≡ i = omega arith in
+          let k : suc i ≡ p + suc i - p = omega arith in
+          ap (λ (n : ℕ). pages_bytes m.cells c.current.start p n + fetched_of (cell m (page_at c.current.start (p + suc i)))) j
+          ∙ ap (pages_bytes m.cells c.current.start p) k
+
+      by : (x : Option ℕ) → (filled (f (p + suc i)) (p + suc i) ≡ None) ⊎ (filled (f (p + suc i)) (p + suc i) ≡ Some (p + suc i))
+          → pages_bytes m.cells c.current.start p (how_far x p (p + i))
+          + cond (goes_on (Ok x)) (fetched_of (cell m (page_at c.current.start (p + suc i)))) 0
+          ≡ pages_bytes m.cells c.current.start p (how_far (or_then x (filled (f (p + suc i)) (p + suc i))) p (p + suc i))
+      by None (inl e) = all ∙ ap (λ (o : Option ℕ). pages_bytes m.cells c.current.start p (how_far o p (p + suc i))) (sym e)
+      by None (inr e) = all ∙ ap (λ (o : Option ℕ). pages_bytes m.cells c.current.start p (how_far o p (p + suc i))) (sym e)
+      by (Some q) s = omega arith
+
+  -- what a recall and a next fetch, at a position that there is
+  recall_takes : (p before now : ℕ) → 1 ≤ p → p ≤ c.positions → RecallFetches (opened m c) p before now
+      → now ≡ counted before (fetched_of (cell m (page_at c.current.start p)))
+  unfolding RecallFetches
+  recall_takes p before now low high x =
+      let t : is_position c.positions p ≡ true = and_from _ _ (le-leb 1 p low) (le-leb p c.positions high) in
+      let y : Fetches (opened m c) (λ held. page_bytes held (page_at c.current.start p)) before now =
+      subst (λ (b : Bool). MatchResult (cond b (Ok c) (Err PositionOutside)) (λ b. Fetches (opened m c) (λ held. page_bytes held (page_at b.current.start p)) before now)
+      (λ cause. now ≡ before)) t x in
+      let g = glimpse m c y.held (gone_on y.held) lawful k.seated k.rest y.holds refl in
+      y.counts ∙ ap (counted before) (g.bytes p high)
+
+  next_takes : (p before now : ℕ) → p ≤ c.positions → NextFetches (opened m c) p before now
+      → now ≡ counted before (pages_bytes m.cells c.current.start p (how_far (nearest f p (c.positions - p)) p c.positions))
+  unfolding NextFetches
+  next_takes p before now high x =
+      let t : leb p c.positions ≡ true = le-leb p c.positions high in
+      let y : Fetches (opened m c) (λ held. searched_bytes held c.current.start p (c.positions - p)) before now =
+      subst (λ (b : Bool). MatchResult (cond b (Ok c) (Err PositionOutside))
+      (λ b. Fetches (opened m c) (λ held. searched_bytes held b.current.start p (b.positions - p)) before now) (λ cause. now ≡ before)) t x in
+      let g = glimpse m c y.held (gone_on y.held) lawful k.seated k.rest y.holds refl in
+      let n : p + (c.positions - p) ≡ c.positions = omega arith in
+      y.counts
+      ∙ ap (counted before) (searched_takes y.held g.page g.bytes p (c.positions - p) (omega arith)
+      ∙ ap (λ (j : ℕ). pages_bytes m.cells c.current.start p (how_far (nearest f p (c.positions - p)) p j)) n)
+
   -- a next, by whether there is such a position
   next_by : (p : ℕ) (r : Result Answer ConsoleFault) (e : Desk) (t : Bool) → leb p c.positions ≡ t
       → MatchResult (cond t (Ok c) (Err PositionOutside)) (λ b. Looks (opened m c) p (found b p) r e) (λ cause. Refuses (opened m c) (no_place cause p) r e)
@@ -193,3 +264,14 @@ pub next_goes : (o : Meaning) (a b : ℕ) (f : Table) (m : Meaning) (c : Pair) (
     → Lawful m → Keeps o a b f m c → Replies (opened m c) (Next p) r e → Goes o a b f m c (Next p) r e
 unfolding Nexts
 next_goes o a b f m c p r e l k x = next_by o a b f m c l k p r e (leb p c.positions) refl x
+
+-- What a recall and a next fetch.
+pub recall_fetches : (o : Meaning) (a b : ℕ) (f : Table) (m : Meaning) (c : Pair) → Lawful m → Keeps o a b f m c
+    → (p before now : ℕ) → 1 ≤ p → p ≤ c.positions → RecallFetches (opened m c) p before now
+    → now ≡ counted before (fetched_of (cell m (page_at c.current.start p)))
+recall_fetches o a b f m c l k p before now low high x = recall_takes o a b f m c l k p before now low high x
+
+pub next_fetches : (o : Meaning) (a b : ℕ) (f : Table) (m : Meaning) (c : Pair) → Lawful m → Keeps o a b f m c
+    → (p before now : ℕ) → p ≤ c.positions → NextFetches (opened m c) p before now
+    → now ≡ counted before (pages_bytes m.cells c.current.start p (how_far (nearest f p (c.positions - p)) p c.positions))
+next_fetches o a b f m c l k p before now high x = next_takes o a b f m c l k p before now high x

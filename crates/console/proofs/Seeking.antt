@@ -1,12 +1,13 @@
 -- The search for the next filled position, one by one.
-use Rattle.std.proofs.Common.{◌≡◌, ℕ, zero, suc, ◌+◌, ◌-◌, ◌<◌, ◌≤◌, Some, None, Ok, Err, Option, Result, refl, ap, ◌∙◌, subst, arith}
+use Rattle.std.proofs.Common.{◌≡◌, ℕ, zero, suc, ◌+◌, ◌-◌, ◌<◌, ◌≤◌, Bool, false, cond, Some, None, Ok, Err, Option, Result, sym, refl, ap, ◌∙◌, subst, arith}
 use Rattle.fault.specs.declared.faults.PartFault.{PartFault}
 use Rattle.part.specs.Meaning.{Meaning}
 use Rattle.book.specs.declared.page.Page.{Page}
 use Rattle.book.specs.Pages.{page_at}
-use Rattle.book.specs.Reading.{reading}
+use Rattle.book.specs.Reading.{reading, counted, page_bytes}
 use Rattle.book.specs.Burning.{stops_of}
-use Rattle.console.specs.Looking.{filled_at, or_else, searched}
+use Rattle.book.proofs.Counting.{counted_more}
+use Rattle.console.specs.Looking.{filled_at, or_else, searched, goes_on, searched_bytes}
 
 pub searched_none : (m : Meaning) (start p : ℕ) → searched m start p 0 ≡ Ok None
 unfolding searched
@@ -59,3 +60,52 @@ pub searched_past : (m : Meaning) (start p q : ℕ) (page : Page) → p ≤ q �
     → reading m (page_at start (q + 1)) ≡ Ok page → page.stops ≡ None → searched m start p (q + 1 - p) ≡ Ok None
 searched_past m start p q page l e d t =
     searched_on m start p q (Ok page) l e d ∙ ap (λ (o : Option ℕ). filled_at (q + 1) (Ok o)) t
+
+-- The bytes that it fetches.
+pub bytes_none : (m : Meaning) (start p : ℕ) → searched_bytes m start p 0 ≡ 0
+unfolding searched_bytes
+bytes_none m start p = refl
+
+bytes_more : (m : Meaning) (start p k : ℕ)
+    → searched_bytes m start p (suc k) ≡ searched_bytes m start p k + cond (goes_on (searched m start p k)) (page_bytes m (page_at start (p + suc k))) 0
+unfolding searched_bytes
+bytes_more m start p k = refl
+
+-- one page more
+pub bytes_on : (m : Meaning) (start p q b x y : ℕ) → p ≤ q → searched m start p (q - p) ≡ Ok None → x ≡ counted b (searched_bytes m start p (q - p))
+    → y ≡ counted x (page_bytes m (page_at start (q + 1))) → y ≡ counted b (searched_bytes m start p (q + 1 - p))
+bytes_on m start p q b x y l e h g =
+    let i : suc (q - p) ≡ q + 1 - p = omega arith in
+    let j : p + suc (q - p) ≡ q + 1 = omega arith in
+    let more : searched_bytes m start p (q + 1 - p) ≡ searched_bytes m start p (q - p) + page_bytes m (page_at start (q + 1)) =
+    subst (λ (k : ℕ). searched_bytes m start p k ≡ searched_bytes m start p (q - p) + page_bytes m (page_at start (q + 1))) i
+    (bytes_more m start p (q - p)
+    ∙ ap (λ (r : Result (Option ℕ) PartFault). searched_bytes m start p (q - p) + cond (goes_on r) (page_bytes m (page_at start (p + suc (q - p)))) 0) e
+    ∙ ap (λ (k : ℕ). searched_bytes m start p (q - p) + page_bytes m (page_at start k)) j) in
+    g ∙ ap (λ (n : ℕ). counted n (page_bytes m (page_at start (q + 1)))) h ∙ counted_more b (searched_bytes m start p (q - p)) _
+    ∙ ap (counted b) (sym more)
+
+-- Nothing is fetched behind what was found.
+bytes_stay : (m : Meaning) (start p k : ℕ) (x : Result (Option ℕ) PartFault) → ((next : Result (Option ℕ) PartFault) → or_else x next ≡ x) → goes_on x ≡ false
+    → searched m start p k ≡ x → (j : ℕ) → searched_bytes m start p (k + j) ≡ searched_bytes m start p k
+bytes_stay m start p k x h g e zero = ap (searched_bytes m start p) (omega arith)
+bytes_stay m start p k x h g e (suc j) =
+    let i : suc (k + j) ≡ k + suc j = omega arith in
+    let last : cond (goes_on (searched m start p (k + j))) (page_bytes m (page_at start (p + suc (k + j)))) 0 ≡ 0 =
+    ap (λ (r : Result (Option ℕ) PartFault). cond (goes_on r) (page_bytes m (page_at start (p + suc (k + j)))) 0) (stays m start p k x h e j)
+    ∙ ap (λ (t : Bool). cond t (page_bytes m (page_at start (p + suc (k + j)))) 0) g in
+    let same = bytes_stay m start p k x h g e j in
+    subst (λ (n : ℕ). searched_bytes m start p n ≡ searched_bytes m start p k) i
+    (bytes_more m start p (k + j) ∙ omega (arith, last, same))
+
+-- a page that ends the search
+pub bytes_end : (m : Meaning) (start p q n b x y : ℕ) (r : Result Page PartFault) (z : Result (Option ℕ) PartFault) → p ≤ q → q < n
+    → searched m start p (q - p) ≡ Ok None → reading m (page_at start (q + 1)) ≡ r → filled_at (q + 1) (stops_of r) ≡ z
+    → ((next : Result (Option ℕ) PartFault) → or_else z next ≡ z) → goes_on z ≡ false
+    → x ≡ counted b (searched_bytes m start p (q - p)) → y ≡ counted x (page_bytes m (page_at start (q + 1)))
+    → y ≡ counted b (searched_bytes m start p (n - p))
+bytes_end m start p q n b x y r z l h e d f o g u v =
+    let i : q + 1 - p + (n - (q + 1)) ≡ n - p = omega arith in
+    bytes_on m start p q b x y l e u v
+    ∙ ap (counted b) (sym (bytes_stay m start p (q + 1 - p) z o g (searched_on m start p q r l e d ∙ f) (n - (q + 1)))
+    ∙ ap (searched_bytes m start p) i)

@@ -1,5 +1,5 @@
 -- What recall and next say of the positions, by what the table tells.
-use Rattle.std.proofs.Common.{◌≡◌, ℕ, zero, suc, ◌+◌, ◌-◌, ◌<◌, ◌≤◌, leb, Some, None, Ok, Err, Option, Result, ◌∙◌, subst, inl, inr, arith}
+use Rattle.std.proofs.Common.{◌≡◌, ℕ, zero, suc, ◌+◌, ◌-◌, ◌<◌, ◌≤◌, leb, Some, None, Ok, Err, Option, Result, sym, ◌∙◌, subst, inl, inr, arith}
 use Rattle.std.proofs.lemmas.Bool.{cases_lt, cond-true, le-leb, and_from}
 use Rattle.console.specs.declared.answers.Answer.{Answer}
 use Rattle.console.specs.declared.answers.Said.{Said}
@@ -61,3 +61,10 @@ pub finds_nearest : (hold : ℕ → Option ℕ → Type 0) (n : ℕ) (g : Table)
     → (r : Result Answer ConsoleFault) → look r ≡ tells n g (Next p) → FindsNearest hold n p r
 finds_nearest hold n g p b h r e =
     (nearest g p (n - p), said_by r (Finds (nearest g p (n - p))) (e ∙ tells_next n g p b), nearest_holds hold g n p b h)
+
+-- what a next gave is what the table tells
+pub found_is : (n : ℕ) (g : Table) (p : ℕ) → p ≤ n → (r : Result Answer ConsoleFault) → look r ≡ tells n g (Next p) → (position : Option ℕ)
+    → said r ≡ Some (Finds position) → nearest g p (n - p) ≡ position
+found_is n g p b r e position i =
+    let both : Some (Finds position) ≡ Some (Finds (nearest g p (n - p))) = sym i ∙ said_by r (Finds (nearest g p (n - p))) (e ∙ tells_next n g p b) in
+    cc

@@ -1,8 +1,9 @@
 -- What the books show at every position after each call, whatever was stored before, in the words of an organist. The calls'
 -- contracts name these laws; they speak of the definitions that the same contracts use.
-use Rattle.std.specs.Prelude.{◌≡◌, ℕ, ◌≤◌, true, false, if◌then◌else◌, Some, None, Ok, Option, Result, ◌==◌, is_ok}
-use Rattle.part.specs.Meaning.{Meaning, worn, Lawful}
-use Rattle.book.specs.Pages.{blank, readable_book}
+use Rattle.std.specs.Prelude.{◌≡◌, ℕ, zero, suc, ◌+◌, ◌-◌, ◌≤◌, true, false, if◌then◌else◌, List, Some, None, Ok, Option, Result, ◌==◌, is_ok, slice_index}
+use Rattle.part.specs.Meaning.{Meaning, cell, worn, Lawful}
+use Rattle.book.specs.Pages.{page_at, blank, readable_book}
+use Rattle.book.specs.Reading.{counted, fetched_of}
 use Rattle.book.specs.Pairs.{Pair, book_size}
 use Rattle.book.specs.Finding.{in_use}
 use Rattle.book.specs.Seats.{Seated}
@@ -13,7 +14,9 @@ use Rattle.console.specs.declared.call.Call.TheVariants.{Set, Clear, Recall, Nex
 use Rattle.console.specs.Desks.{Desk, closed}
 use Rattle.console.specs.Opening.{Opens}
 use Rattle.console.specs.Calls.{Replies}
-use Rattle.console.specs.Showing.{books_show, ShowsHeld, FindsNearest, Prompt}
+use Rattle.console.specs.declared.answers.Said.TheVariants.{Finds}
+use Rattle.console.specs.Looking.{RecallFetches, NextFetches}
+use Rattle.console.specs.Showing.{books_show, said, ShowsHeld, FindsNearest, Prompt}
 
 -- The other book is blank, or it is being erased, or it is spoilt: its block is worn.
 pub data OtherBook (m : Meaning) (b : Pair) : Type 0 where
@@ -69,6 +72,16 @@ pub record ClearLaw : Type 0 where
 abbrev pub holds_shown : Desk → ℕ → Option ℕ → Type 0
 holds_shown d p v = v ≡ books_show d p
 
+-- how many bytes are fetched from the k pages that follow position p, each by its tally
+unfoldable pub pages_bytes : List ℕ → ℕ → ℕ → ℕ → ℕ
+pages_bytes cells start p zero = 0
+pages_bytes cells start p (suc k) = pages_bytes cells start p k + fetched_of (slice_index cells (page_at start (p + suc k)))
+
+-- how many pages behind p are read: up to the one that is found, or all n
+abbrev pub how_far : Option ℕ → ℕ → ℕ → ℕ
+how_far None p n = n - p
+how_far (Some q) p n = q - p
+
 -- recall: at a position it is accepted and shows what the books show there. It changes nothing that is shown, and is prompt.
 pub record RecallLaw : Type 0 where
   pub shows : (d : Desk) (o : InOrder d) (p : ℕ) (r : Result Answer ConsoleFault) (e : Desk) → Replies d (Recall p) r e
@@ -77,6 +90,9 @@ pub record RecallLaw : Type 0 where
       → ShowSame o.books.positions d e
   pub prompt : (d : Desk) (o : InOrder d) (p : ℕ) (r : Result Answer ConsoleFault) (e : Desk) → Replies d (Recall p) r e
       → Prompt d.part.clock e.part.clock r
+  -- It fetches the tally, and eight bytes more where a line is used.
+  pub fetches : (d : Desk) (o : InOrder d) (p before after : ℕ) → RecallFetches d p before after → 1 ≤ p → p ≤ o.books.positions
+      → after ≡ counted before (fetched_of (cell d.part (page_at o.books.current.start p)))
 
 -- next: from 0 to the last position it is accepted and gives the nearest later position at which the books show stops.
 pub record NextLaw : Type 0 where
@@ -86,3 +102,7 @@ pub record NextLaw : Type 0 where
       → ShowSame o.books.positions d e
   pub prompt : (d : Desk) (o : InOrder d) (p : ℕ) (r : Result Answer ConsoleFault) (e : Desk) → Replies d (Next p) r e
       → Prompt d.part.clock e.part.clock r
+  -- It fetches as much of each page behind the position, up to the one that it gives.
+  pub fetches : (d : Desk) (o : InOrder d) (p before after : ℕ) (r : Result Answer ConsoleFault) (e : Desk) (position : Option ℕ)
+      → Replies d (Next p) r e → said r ≡ Some (Finds position) → NextFetches d p before after → p ≤ o.books.positions
+      → after ≡ counted before (pages_bytes d.part.cells o.books.current.start p (how_far position p o.books.positions))

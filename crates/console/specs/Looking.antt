@@ -1,11 +1,11 @@
 -- recall and next. Both hold a running erasure, look, and let it go on.
-use Rattle.std.specs.Prelude.{◌≡◌, ℕ, zero, suc, ◌+◌, ◌-◌, Some, None, Ok, Err, Option, Result, MatchResult}
+use Rattle.std.specs.Prelude.{◌≡◌, ℕ, zero, suc, ◌+◌, ◌-◌, Bool, true, false, if◌then◌else◌, Some, None, Ok, Err, Option, Result, MatchResult}
 use Rattle.fault.specs.declared.faults.PartFault.{PartFault}
 use Rattle.part.specs.Meaning.{Meaning}
 use Rattle.part.specs.Calls.{Held, gone_on}
 use Rattle.book.specs.declared.page.Page.{Page}
 use Rattle.book.specs.Pages.{page_at}
-use Rattle.book.specs.Reading.{reading}
+use Rattle.book.specs.Reading.{reading, counted, page_bytes}
 use Rattle.book.specs.Burning.{stops_of}
 use Rattle.book.specs.Pairs.{Pair}
 use Rattle.fault.specs.declared.faults.ConsoleFault.{ConsoleFault}
@@ -64,3 +64,36 @@ Recalls d p r e = MatchResult (recall_books d.books p) (λ b. Looks d p (shown b
 -- next gives the first filled position after p.
 unfoldable pub Nexts : Desk → ℕ → Result Answer ConsoleFault → Desk → Type 0
 Nexts d p r e = MatchResult (next_books d.books p) (λ b. Looks d p (found b p) r e) (λ cause. Refuses d (no_place cause p) r e)
+
+-- The bytes that a look fetches, told by what the part means while the erasure is held. `before` and `after` are what the caller's
+-- counter says.
+pub record Fetches (d : Desk) (bytes : Meaning → ℕ) (before after : ℕ) : Type 0 where
+  pub held : Meaning
+  pub holds : Held d.part held
+  pub counts : after ≡ counted before (bytes held)
+
+-- at position p of the current book
+abbrev pub shown_bytes : Pair → ℕ → Meaning → ℕ
+shown_bytes b p held = page_bytes held (page_at b.current.start p)
+
+-- whether a search has found nothing yet
+abbrev pub goes_on : Result (Option ℕ) PartFault → Bool
+goes_on (Ok None) = true
+goes_on (Ok (Some q)) = false
+goes_on (Err f) = false
+
+-- among the k positions that follow p: page after page, as long as nothing is found
+unfoldable pub searched_bytes : Meaning → ℕ → ℕ → ℕ → ℕ
+searched_bytes m start p zero = 0
+searched_bytes m start p (suc k) =
+    searched_bytes m start p k + (if goes_on (searched m start p k) then page_bytes m (page_at start (p + suc k)) else 0)
+
+abbrev pub found_bytes : Pair → ℕ → Meaning → ℕ
+found_bytes b p held = searched_bytes held b.current.start p (b.positions - p)
+
+-- A call that is refused before anything is touched fetches nothing.
+unfoldable pub RecallFetches : Desk → ℕ → ℕ → ℕ → Type 0
+RecallFetches d p before after = MatchResult (recall_books d.books p) (λ b. Fetches d (shown_bytes b p) before after) (λ cause. after ≡ before)
+
+unfoldable pub NextFetches : Desk → ℕ → ℕ → ℕ → Type 0
+NextFetches d p before after = MatchResult (next_books d.books p) (λ b. Fetches d (found_bytes b p) before after) (λ cause. after ≡ before)

@@ -3,6 +3,7 @@ ghost use Rattle.console.specs.Calls.{Replies};
 
 use crate::answers::Answer;
 use crate::console::Console;
+use book::Fetched;
 use fault::ConsoleFault;
 use part::Part;
 
@@ -24,8 +25,8 @@ impl<P: Part + Drop> Console<P> {
         match call {
             Call::Set { position, stops } => self.set(position, stops),
             Call::Clear { position } => self.clear(position),
-            Call::Recall { position } => self.recall(position),
-            Call::Next { position } => self.next(position),
+            Call::Recall { position } => self.recall(position, &mut Fetched::none()),
+            Call::Next { position } => self.next(position, &mut Fetched::none()),
             Call::Wait { us } => self.wait(us),
         }
     }

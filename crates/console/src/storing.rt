@@ -9,7 +9,7 @@ use crate::check::store_spot;
 use crate::console::Console;
 use crate::faults::at;
 use crate::waiting::let_end;
-use book::{Page, Spot};
+use book::{Fetched, Page, Spot};
 use fault::{Cause, ConsoleFault, PartFault};
 use part::Part;
 
@@ -80,7 +80,7 @@ fn store<P: Part>(part: &mut P, spot: &mut Spot, new: Option<u64>) -> Result<(),
 {
     let worn = let_end(part);
     spot.books = spot.books.spoilt_if(worn);
-    let page = spot.read(part)?;
+    let page = spot.read(part, &mut Fetched::none())?;
     let way = Way::of(page, new, spot.books.spoilt);
     go(part, spot, page, new, way)
 }

@@ -4,6 +4,7 @@ ghost use Rattle.console.specs.declared.call.Call.TheVariants.{Set, Clear};
 ghost use Rattle.rehearsal.specs.Rows.{calls_of};
 ghost use Rattle.examples.specs.Told.{AsTold, Listed};
 
+use book::Fetched;
 use console::{Call, Console, Said};
 use part::{Part, Standing, Turn};
 use rehearsal::{Row, console_on_bench, play_on_bench};
@@ -115,12 +116,13 @@ pub fn eight_sets(rt: &HostRuntime) -> Result<(), Trouble> {
 pub fn last_position(rt: &HostRuntime) -> Result<(), Trouble> {
     let mut console = opened(rt)?;
     console.set(7, 0x7FFF_FFFF_FFFF_FFFF)?;
-    let verdict = match console.recall(7)?.said {
+    let mut fetched = Fetched::none();
+    let verdict = match console.recall(7, &mut fetched)?.said {
         Said::Shows(Some(0x7FFF_FFFF_FFFF_FFFF)) => "as it should be",
         _ => "WRONG",
     };
     println!(rt; "position 7, 63 stops drawn: accepted, {verdict}")?;
-    let verdict = match console.next(7)?.said {
+    let verdict = match console.next(7, &mut fetched)?.said {
         Said::Finds(None) => "none, as it should be",
         _ => "WRONG",
     };

@@ -1,4 +1,4 @@
-use Rattle.std.proofs.Common.{◌≡◌, ℕ, ◌+◌, ◌-◌, ◌*◌, ◌≤◌, true, false, sym, refl, ap, ◌∙◌, subst, arith}
+use Rattle.std.proofs.Common.{◌≡◌, ℕ, ◌+◌, ◌≤◌, true, false, sym, refl, ap, ◌∙◌, subst, arith}
 use Rattle.std.proofs.lemmas.Bool.{and_from, and_right}
 use Rattle.part.specs.Meaning.{Meaning, size}
 use Rattle.part.specs.Calls.{stands}
@@ -10,10 +10,10 @@ pub is_readable-requires : goal.is_readable-requires
 is_readable-requires g c =
     let m = g.P.Part.means c.args.part.now in
     let e = c.loop-p.invariant.0 ∙ c.is_blank.ensures.same in
-    let l : c.args.start + 64 * c.loop-p.p + 64 ≤ size m = omega (arith, c.requires.within) in
+    let l : page_at c.args.start (c.loop-p.p + 1) + 64 ≤ size m = omega (arith, c.requires.within) in
     record {
       still = subst (λ (x : Meaning). stands x ≡ false) (sym e) c.requires.still;
-      within = subst (λ (x : Meaning). c.args.start + 64 * c.loop-p.p + 64 ≤ size x) (sym e) l;
+      within = subst (λ (x : Meaning). page_at c.args.start (c.loop-p.p + 1) + 64 ≤ size x) (sym e) l;
     }
 
 pub loop-p-init : goal.loop-p-init
@@ -23,14 +23,10 @@ pub loop-p-preserved : goal.loop-p-preserved
 loop-p-preserved g c =
     let k = g.P.Part.means c.loop-p.part in
     let s = c.args.start in
-    let p = c.loop-p.p in
-    let i : p - 1 + 1 ≡ p = omega arith in
-    let j : p - 1 + 1 ≡ p + 1 - 1 = omega arith in
-    let page : readable_page k.cells (page_at s (p - 1 + 1)) ≡ true =
-    subst (λ (q : ℕ). readable_page k.cells (page_at s q) ≡ true) (sym i) (sym c.is_readable.ensures.answer ∙ c.if-not-is_readable.false) in (
+    let p = c.loop-p.p in (
       c.is_readable.ensures.same ∙ c.loop-p.invariant.0,
-      subst (λ (x : Meaning). readable_pages x.cells s (p + 1 - 1) ≡ true) (sym c.is_readable.ensures.same)
-          (subst (λ (q : ℕ). readable_pages k.cells s q ≡ true) j (positions_more k.cells s (p - 1) c.loop-p.invariant.1 page)),
+      subst (λ (x : Meaning). readable_pages x.cells s (p + 1) ≡ true) (sym c.is_readable.ensures.same)
+          (positions_more k.cells s p c.loop-p.invariant.1 (sym c.is_readable.ensures.answer ∙ c.if-not-is_readable.false)),
     )
 
 pub returns-then-not-is_readable : goal.returns-then-not-is_readable
@@ -38,10 +34,10 @@ returns-then-not-is_readable g c =
     let m = g.P.Part.means c.args.part.now in
     let e = c.loop-p.invariant.0 ∙ c.is_blank.ensures.same in
     let p = c.loop-p.p in
-    let page : readable_page m.cells (page_at c.args.start p) ≡ false =
-    ap (λ (x : Meaning). readable_page x.cells (page_at c.args.start p)) (sym e) ∙ sym c.is_readable.ensures.answer ∙ c.if-not-is_readable.true in
+    let page : readable_page m.cells (page_at c.args.start (p + 1)) ≡ false =
+    ap (λ (x : Meaning). readable_page x.cells (page_at c.args.start (p + 1))) (sym e) ∙ sym c.is_readable.ensures.answer ∙ c.if-not-is_readable.true in
     record {
-      answer = sym (and_right _ _ (positions_fail m.cells c.args.start c.args.positions p (omega arith) page (omega arith)));
+      answer = sym (and_right _ _ (positions_fail m.cells c.args.start c.args.positions (p + 1) (omega arith) page (omega arith)));
       same = c.is_readable.ensures.same ∙ e;
     }
 
@@ -49,7 +45,7 @@ pub returns : goal.returns
 returns g c =
     let m = g.P.Part.means c.args.part.now in
     let e = c.loop-p.invariant.0 ∙ c.is_blank.ensures.same in
-    let n : c.loop-p.p - 1 ≡ c.args.positions = omega arith in
+    let n : c.loop-p.p ≡ c.args.positions = omega arith in
     record {
       answer =
           sym (and_from _ _ (sym c.is_blank.ensures.answer ∙ c.if-not-is_blank.false)

@@ -2,8 +2,10 @@ use Rattle.std.proofs.Common.{◌≡◌, ℕ, ◌+◌, ◌-◌, true, false, is_
 use Rattle.std.proofs.lemmas.Result.{err_from_is_err_and}
 use Rattle.std.proofs.lemmas.Bool.{true≢false}
 use Rattle.part.specs.Meaning.{Meaning}
-use Rattle.console.specs.Looking.{searched}
-use Rattle.console.proofs.Seeking.{searched_none, searched_past, searched_stops, searched_finds}
+use Rattle.book.specs.Reading.{counted}
+use Rattle.book.proofs.Counting.{counted_none}
+use Rattle.console.specs.Looking.{searched, filled_at, searched_bytes}
+use Rattle.console.proofs.Seeking.{searched_none, searched_past, searched_stops, searched_finds, bytes_none, bytes_on, bytes_end}
 use Rattle.console.proofs.looking.search.Goals as goal
 
 none_is : (o : Option ℕ) → is_some o ≡ false → o ≡ None
@@ -18,8 +20,13 @@ pub loop-q-init : goal.loop-q-init
 loop-q-init g c =
     let m = g.P.Part.means c.args.part.now in
     let s = c.args.after.books.current.start in
-    let z : 0 ≡ c.args.after.position - c.args.after.position = omega arith in
-    (refl, subst (λ (k : ℕ). searched m s c.args.after.position k ≡ Ok None) z (searched_none m s c.args.after.position), omega arith)
+    let z : 0 ≡ c.args.after.position - c.args.after.position = omega arith in (
+      refl,
+      subst (λ (k : ℕ). searched m s c.args.after.position k ≡ Ok None) z (searched_none m s c.args.after.position),
+      omega arith,
+      counted_none c.args.fetched.now.bytes c.args.fetched.now.within
+          ∙ ap (counted c.args.fetched.now.bytes) (sym (bytes_none m s c.args.after.position) ∙ ap (searched_bytes m s c.args.after.position) z),
+    )
 
 pub loop-q-preserved : goal.loop-q-preserved
 loop-q-preserved g c =
@@ -31,6 +38,9 @@ loop-q-preserved g c =
           (searched_past k s c.args.after.position q c.in_ok-read.field-0 (omega arith) c.loop-q.invariant.1
           (sym c.read.ensures.answer ∙ c.in_ok-read.was) (none_is _ (sym c.is_some.ensures ∙ c.if-is_some.false))),
       omega arith,
+      bytes_on k s c.args.after.position q c.args.fetched.now.bytes c.loop-q.fetched.bytes c.read.new.fetched.bytes (omega arith) c.loop-q.invariant.1
+          c.loop-q.invariant.3 c.read.ensures.counts
+          ∙ ap (λ (x : Meaning). counted c.args.fetched.now.bytes (searched_bytes x s c.args.after.position (q + 1 - c.args.after.position))) (sym c.read.ensures.same),
     )
 
 pub returns-in_err-read : goal.returns-in_err-read
@@ -45,6 +55,12 @@ returns-in_err-read g c =
           p.1 ∙ ap Err p.2 ∙ sym found
           ∙ ap (λ (x : Meaning). searched x s c.args.after.position (c.args.after.books.positions - c.args.after.position)) c.loop-q.invariant.0;
       same = c.read.ensures.same ∙ c.loop-q.invariant.0;
+      counts =
+          bytes_end k s c.args.after.position c.loop-q.q c.args.after.books.positions c.args.fetched.now.bytes c.loop-q.fetched.bytes c.read.new.fetched.bytes
+          (Err c.in_err-read.field-0.0) (Err c.in_err-read.field-0.0) (omega arith) (omega arith) c.loop-q.invariant.1
+          (sym c.read.ensures.answer ∙ c.in_err-read.was) refl (λ _. refl) refl c.loop-q.invariant.3 c.read.ensures.counts
+          ∙ ap (λ (x : Meaning). counted c.args.fetched.now.bytes (searched_bytes x s c.args.after.position (c.args.after.books.positions - c.args.after.position)))
+          c.loop-q.invariant.0;
     }
 
 pub returns-then-is_some : goal.returns-then-is_some
@@ -59,6 +75,12 @@ returns-then-is_some g c =
     record {
       answer = says ∙ ap (λ (x : Meaning). searched x s c.args.after.position n) c.loop-q.invariant.0;
       same = c.read.ensures.same ∙ c.loop-q.invariant.0;
+      counts =
+          bytes_end k s c.args.after.position c.loop-q.q c.args.after.books.positions c.args.fetched.now.bytes c.loop-q.fetched.bytes c.read.new.fetched.bytes
+          (Ok c.in_ok-read.field-0) (Ok (Some (c.loop-q.q + 1))) (omega arith) (omega arith) c.loop-q.invariant.1
+          (sym c.read.ensures.answer ∙ c.in_ok-read.was) (ap (λ (o : Option ℕ). filled_at (c.loop-q.q + 1) (Ok o)) some.1) (λ _. refl) refl
+          c.loop-q.invariant.3 c.read.ensures.counts
+          ∙ ap (λ (x : Meaning). counted c.args.fetched.now.bytes (searched_bytes x s c.args.after.position n)) c.loop-q.invariant.0;
     }
 
 pub returns : goal.returns
@@ -71,4 +93,8 @@ returns g c =
           sym (subst (λ (i : ℕ). searched k s c.args.after.position i ≡ Ok None) n c.loop-q.invariant.1)
           ∙ ap (λ (x : Meaning). searched x s c.args.after.position (c.args.after.books.positions - c.args.after.position)) c.loop-q.invariant.0;
       same = c.loop-q.invariant.0;
+      counts =
+          c.loop-q.invariant.3 ∙ ap (λ (i : ℕ). counted c.args.fetched.now.bytes (searched_bytes k s c.args.after.position i)) n
+          ∙ ap (λ (x : Meaning). counted c.args.fetched.now.bytes (searched_bytes x s c.args.after.position (c.args.after.books.positions - c.args.after.position)))
+          c.loop-q.invariant.0;
     }
