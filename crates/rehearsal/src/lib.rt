@@ -1,4 +1,4 @@
-//! Two consoles side by side.
+//! Two consoles side by side, and the worked examples on a chip.
 #![tactic(auto)]
 
 mod account;
