@@ -1,4 +1,4 @@
--- What holds of every part, in the words of the workshop.
+-- What holds of every part.
 use Rattle.std.specs.Prelude.{◌≡◌, ℕ, ◌+◌, ◌<◌, ◌≤◌, true, false, List, [], ◌∷◌, Some, None, nat_le}
 use Rattle.part.specs.declared.answers.Progress.TheVariants.{Running}
 use Rattle.part.specs.declared.answers.Turn.TheVariants.{Done}
