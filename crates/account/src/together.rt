@@ -135,16 +135,16 @@ pub fn run(rt: &HostRuntime) -> Result<(), Trouble> {
     print_row(
         rt,
         "open",
-        Reply::Opened(opened.quick.reply),
-        Reply::Opened(opened.slow.reply),
+        Reply::Answer(opened.quick.reply),
+        Reply::Answer(opened.slow.reply),
     )?;
     for row in rows.iter() {
         let name = call_text(heap, row.call)?;
         print_row(
             rt,
             name.as_str(),
-            Reply::Called(row.quick.reply),
-            Reply::Called(row.slow.reply),
+            Reply::Answer(row.quick.reply),
+            Reply::Answer(row.slow.reply),
         )?;
     }
     Ok(())

@@ -44,12 +44,12 @@ impl<P: Part + Drop> Stage<P> {
     fn ask(&mut self, request: Request) -> (Reply, Reply) {
         match request {
             Request::Open(quick, slow) => (
-                Reply::Opened(self.quick.open(quick.first, quick.second)),
-                Reply::Opened(self.slow.open(slow.first, slow.second)),
+                Reply::Answer(self.quick.open(quick.first, quick.second)),
+                Reply::Answer(self.slow.open(slow.first, slow.second)),
             ),
             Request::Call(call) => (
-                Reply::Called(self.quick.perform(call)),
-                Reply::Called(self.slow.perform(call)),
+                Reply::Answer(self.quick.perform(call)),
+                Reply::Answer(self.slow.perform(call)),
             ),
             Request::Quiet => (
                 Reply::Quiet(self.quick.quiet()),
@@ -73,14 +73,14 @@ impl<P: Part + Drop> Stage<P> {
         };
         sheet.add(
             first,
-            Reply::Opened(opened.quick.reply),
-            Reply::Opened(opened.slow.reply),
+            Reply::Answer(opened.quick.reply),
+            Reply::Answer(opened.slow.reply),
         )?;
         for (step, row) in rest.iter().zip(rows.iter()) {
             sheet.add(
                 step,
-                Reply::Called(row.quick.reply),
-                Reply::Called(row.slow.reply),
+                Reply::Answer(row.quick.reply),
+                Reply::Answer(row.slow.reply),
             )?;
         }
         Ok(())

@@ -7,7 +7,7 @@ use Rattle.console.specs.declared.answers.Said.{Said}
 use Rattle.console.specs.declared.answers.Said.TheVariants.{Done, Shows, Finds}
 use Rattle.console.specs.declared.answers.Answer.{Answer}
 use Rattle.script.specs.declared.replies.Reply.{Reply}
-use Rattle.script.specs.declared.replies.Reply.TheVariants.{Opened, Called, Quiet}
+use Rattle.script.specs.declared.replies.Reply.TheVariants as replies
 
 -- a number in hexadecimal capitals with zeros before them, sixteen in all
 unfoldable pub sixteen : ℕ → List ℕ
@@ -33,13 +33,10 @@ timed said us = said ++ (codes " +" ++ (decimal us ++ codes " us"))
 abbrev pub refusal_text : ConsoleFault → List ℕ
 refusal_text f = codes "refused " ++ (decimal (number_of f.cause) ++ (codes " place " ++ (decimal f.place ++ (codes " position " ++ decimal f.position))))
 
-abbrev pub open_text : Result ℕ ConsoleFault → List ℕ
-open_text (Ok us) = timed (codes "ok") us
-open_text (Err f) = refusal_text f
-
-abbrev pub reply_text : Result Answer ConsoleFault → List ℕ
-reply_text (Ok x) = timed (said_text x.said) x.us
-reply_text (Err f) = refusal_text f
+-- to open, or to one of the five calls
+abbrev pub answer_text : Result Answer ConsoleFault → List ℕ
+answer_text (Ok x) = timed (said_text x.said) x.us
+answer_text (Err f) = refusal_text f
 
 abbrev pub quiet_text : Bool → List ℕ
 quiet_text true = codes "yes"
@@ -50,6 +47,5 @@ verdict_text true = codes "same"
 verdict_text false = codes "different"
 
 abbrev pub text_of : Reply → List ℕ
-text_of (Opened r) = open_text r
-text_of (Called r) = reply_text r
-text_of (Quiet q) = quiet_text q
+text_of (replies.Answer r) = answer_text r
+text_of (replies.Quiet q) = quiet_text q

@@ -1,7 +1,6 @@
 // Whether two consoles answered alike, the microseconds aside.
 ghost use Rattle.std.specs.Prelude.{◌≡◌, ◌↔◌, IsTrue};
 ghost use Rattle.rehearsal.specs.Promises.{Same};
-ghost use Rattle.script.specs.Alike.{SameOpening};
 
 use console::{Answer, Said};
 use fault::ConsoleFault;
@@ -23,19 +22,8 @@ fn same_said(a: Said, b: Said) -> bool
     }
 }
 
-// Whether two openings were both accepted, or both refused for one reason.
-pub(crate) fn same_opening(a: Result<u32, ConsoleFault>, b: Result<u32, ConsoleFault>) -> bool
-    ensures { IsTrue result ↔ SameOpening a b }
-{
-    match (a, b) {
-        (Ok(_), Ok(_)) => true,
-        (Err(x), Err(y)) => same_fault(x, y),
-        _ => false,
-    }
-}
-
 // Whether two calls were both accepted and said the same, or were both refused for one reason.
-pub(crate) fn same_reply(a: Result<Answer, ConsoleFault>, b: Result<Answer, ConsoleFault>) -> bool
+pub(crate) fn same_answer(a: Result<Answer, ConsoleFault>, b: Result<Answer, ConsoleFault>) -> bool
     ensures { IsTrue result ↔ Same a b }
 {
     match (a, b) {

@@ -1,6 +1,6 @@
 // The text of the answers.
 ghost use Rattle.std.specs.Prelude.{Some};
-ghost use Rattle.script.specs.Answers.{said_text, refusal_text, open_text, reply_text, quiet_text, verdict_text};
+ghost use Rattle.script.specs.Answers.{said_text, refusal_text, answer_text, quiet_text, verdict_text};
 
 use console::{Answer, Said};
 use fault::ConsoleFault;
@@ -39,27 +39,12 @@ impl fmt::Display for Refusal {
     }
 }
 
-// What a console answered when it was opened.
+// What a console answered to open, or to one of the five calls.
 #[derive(Clone, Copy)]
-pub(crate) struct OpenReply(pub(crate) Result<u32, ConsoleFault>);
+pub(crate) struct AnswerText(pub(crate) Result<Answer, ConsoleFault>);
 
-impl fmt::Display for OpenReply {
-    ghost output = { λ x. Some (open_text x.0) };
-
-    fn fmt<W: fmt::Write>(&self, f: &mut fmt::Formatter<W>) -> fmt::Result {
-        match self.0 {
-            Ok(us) => write!(f, "ok +{us} us"),
-            Err(fault) => Refusal(fault).fmt(f),
-        }
-    }
-}
-
-// What a console answered to one of the five calls.
-#[derive(Clone, Copy)]
-pub(crate) struct CallReply(pub(crate) Result<Answer, ConsoleFault>);
-
-impl fmt::Display for CallReply {
-    ghost output = { λ x. Some (reply_text x.0) };
+impl fmt::Display for AnswerText {
+    ghost output = { λ x. Some (answer_text x.0) };
 
     fn fmt<W: fmt::Write>(&self, f: &mut fmt::Formatter<W>) -> fmt::Result {
         match self.0 {
@@ -75,9 +60,9 @@ impl fmt::Display for CallReply {
 
 // Whether the power may go off.
 #[derive(Clone, Copy)]
-pub(crate) struct QuietReply(pub(crate) bool);
+pub(crate) struct QuietText(pub(crate) bool);
 
-impl fmt::Display for QuietReply {
+impl fmt::Display for QuietText {
     ghost output = { λ x. Some (quiet_text x.0) };
 
     fn fmt<W: fmt::Write>(&self, f: &mut fmt::Formatter<W>) -> fmt::Result {

@@ -3,8 +3,8 @@ ghost use Rattle.std.specs.Prelude.{◌≡◌, ◌↔◌, Some, IsTrue};
 ghost use Rattle.script.specs.Answers.{text_of};
 ghost use Rattle.script.specs.Alike.{SameReply};
 
-use crate::alike::{same_opening, same_reply};
-use crate::answers::{CallReply, OpenReply, QuietReply};
+use crate::alike::same_answer;
+use crate::answers::{AnswerText, QuietText};
 use console::Answer;
 use fault::ConsoleFault;
 use std::fmt;
@@ -12,8 +12,8 @@ use std::fmt;
 /// What a console answers to a request.
 #[derive(Clone, Copy)]
 pub enum Reply {
-    Opened(Result<u32, ConsoleFault>),
-    Called(Result<Answer, ConsoleFault>),
+    /// To open, or to one of the five calls.
+    Answer(Result<Answer, ConsoleFault>),
     Quiet(bool),
 }
 
@@ -22,9 +22,8 @@ impl fmt::Display for Reply {
 
     fn fmt<W: fmt::Write>(&self, f: &mut fmt::Formatter<W>) -> fmt::Result {
         match *self {
-            Reply::Opened(reply) => OpenReply(reply).fmt(f),
-            Reply::Called(reply) => CallReply(reply).fmt(f),
-            Reply::Quiet(quiet) => QuietReply(quiet).fmt(f),
+            Reply::Answer(answer) => AnswerText(answer).fmt(f),
+            Reply::Quiet(quiet) => QuietText(quiet).fmt(f),
         }
     }
 }
@@ -35,8 +34,7 @@ impl Reply {
         ensures { IsTrue result ↔ SameReply self other }
     {
         match (self, other) {
-            (Reply::Opened(a), Reply::Opened(b)) => same_opening(a, b),
-            (Reply::Called(a), Reply::Called(b)) => same_reply(a, b),
+            (Reply::Answer(a), Reply::Answer(b)) => same_answer(a, b),
             (Reply::Quiet(a), Reply::Quiet(b)) => a == b,
             _ => false,
         }
