@@ -9,6 +9,7 @@ use std::io::{self, Write};
 enum Heard {
     Reply(Reply),
     Quiet(bool),
+    Anew,
 }
 
 impl Heard {
@@ -18,6 +19,7 @@ impl Heard {
             (Heard::Reply(Ok(one)), Heard::Reply(Ok(two))) => one.said == two.said,
             (Heard::Reply(Err(one)), Heard::Reply(Err(two))) => one == two,
             (Heard::Quiet(one), Heard::Quiet(two)) => one == two,
+            (Heard::Anew, Heard::Anew) => true,
             _ => false,
         }
     }
@@ -26,6 +28,7 @@ impl Heard {
         match self {
             Heard::Quiet(true) => out.write_all(b"yes"),
             Heard::Quiet(false) => out.write_all(b"no"),
+            Heard::Anew => out.write_all(b"ok"),
             Heard::Reply(Ok(answer)) => write_answer(out, answer),
             Heard::Reply(Err(Refusal {
                 cause,
@@ -63,6 +66,10 @@ fn perform<P: Part>(console: &mut Console<P>, call: Call, on: fn(Seats) -> [u32;
         Call::Next { position } => console.next(position),
         Call::Wait { us } => console.wait(us),
         Call::Quiet => return Heard::Quiet(console.quiet()),
+        Call::Anew => {
+            console.renew();
+            return Heard::Anew;
+        }
     })
 }
 

@@ -30,6 +30,11 @@ impl Array {
         }
     }
 
+    /// Puts a byte into the memory.
+    pub fn poke(&mut self, address: u32, byte: u8) {
+        self.cells[address as usize] = byte;
+    }
+
     fn at(&self, number: u32) -> Block {
         Block {
             start: number * self.width,

@@ -298,6 +298,13 @@ impl Chip {
     }
 }
 
+impl Chip {
+    /// Puts a byte into the memory.
+    pub fn poke(&mut self, address: u32, byte: u8) {
+        self.cells[address as usize] = byte;
+    }
+}
+
 impl Bus for Chip {
     fn write(&mut self, address: u32, byte: u8) -> Result<(), Fault> {
         self.check(address)?;

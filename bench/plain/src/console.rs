@@ -104,6 +104,11 @@ impl<P: Part> Console<P> {
         Console { part, books: None }
     }
 
+    /// Makes it anew, closed, over its part as it stands.
+    pub fn renew(&mut self) {
+        self.books = None;
+    }
+
     /// Whether no erasure stands and no book is spoilt.
     pub fn quiet(&self) -> bool {
         !self.part.standing().stands() && !self.books.is_some_and(|books| books.spoilt)

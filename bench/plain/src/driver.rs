@@ -1,6 +1,6 @@
 //! A chip under its driver, as a part. The driver knows the chip's geometry, and uses cycles and time alone.
 
-use crate::chip::{Bus, FIRST, LONGEST_PROGRAM, LONGEST_SUSPENSION, SECOND};
+use crate::chip::{Bus, Chip, FIRST, LONGEST_PROGRAM, LONGEST_SUSPENSION, SECOND};
 use crate::geometry::{Block, Geometry};
 use crate::part::{needs_erase, refuse, Cause, Fault, Part, Progress, Standing};
 
@@ -122,6 +122,13 @@ impl<B: Bus> Driven<B> {
             self.put(start, 0xF0);
         }
         verdict
+    }
+}
+
+impl Driven<Chip> {
+    /// Puts a byte into the chip's memory.
+    pub fn poke(&mut self, address: u32, byte: u8) {
+        self.bus.poke(address, byte);
     }
 }
 

@@ -49,6 +49,27 @@ impl Joined {
     }
 }
 
+impl Joined {
+    // Puts a byte into the memory.
+    fn poke(&mut self, address: u32, byte: u8) {
+        match address.checked_sub(self.first.size()) {
+            None => self.first.poke(address, byte),
+            Some(inner) => self.second.poke(inner, byte),
+        }
+    }
+}
+
+impl Pile {
+    /// Puts a byte into the memory on which the part is made, at an address inside.
+    pub fn poke(&mut self, address: u32, byte: u8) {
+        match self {
+            Pile::Array(array) => array.poke(address, byte),
+            Pile::Chip(chip) => chip.poke(address, byte),
+            Pile::Joined(joined) => joined.poke(address, byte),
+        }
+    }
+}
+
 impl Part for Joined {
     fn size(&self) -> u32 {
         if self.live {

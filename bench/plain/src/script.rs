@@ -4,6 +4,7 @@ use crate::array::Array;
 use crate::chip::{Chip, Setup};
 use crate::driver::Driven;
 use crate::geometry::{Geometry, B004, BENCH, T004};
+use crate::part::Part;
 use crate::pile::{Joined, Pile};
 use std::fmt;
 
@@ -28,6 +29,10 @@ pub enum Complaint {
     TooEarly,
     NoQuick,
     NoSlow,
+    NoConsole,
+    UnknownConsole,
+    CellsOutOfPlace,
+    OutsidePart,
     Unfit,
     NoMemory,
 }
@@ -50,6 +55,10 @@ impl fmt::Display for Complaint {
             Complaint::TooEarly => "a call before quick and slow",
             Complaint::NoQuick => "quick is missing",
             Complaint::NoSlow => "slow is missing",
+            Complaint::NoConsole => "quick or slow is missing",
+            Complaint::UnknownConsole => "a console is quick or slow",
+            Complaint::CellsOutOfPlace => "cells out of place",
+            Complaint::OutsidePart => "an address outside the part",
             Complaint::Unfit => "refused 4: a number of the part is outside its limits",
             Complaint::NoMemory => "there is no memory for the part",
         })
@@ -85,6 +94,7 @@ pub enum Call {
     Next { position: u32 },
     Wait { us: u32 },
     Quiet,
+    Anew,
 }
 
 /// A call with its line, comment and outer spaces off.
@@ -124,6 +134,10 @@ impl<'a> Words<'a> {
         self.long()?.try_into().map_err(|_| Complaint::BadNumber)
     }
 
+    fn byte(&mut self) -> Result<u8, Complaint> {
+        byte(self.must(Complaint::NoNumber)?)
+    }
+
     fn long(&mut self) -> Result<u64, Complaint> {
         number(self.must(Complaint::NoNumber)?)
     }
@@ -151,6 +165,10 @@ fn number(word: &[u8]) -> Result<u64, Complaint> {
             .and_then(|value| value.checked_add(digit.into()));
     }
     value.ok_or(Complaint::BadNumber)
+}
+
+fn byte(word: &[u8]) -> Result<u8, Complaint> {
+    number(word)?.try_into().map_err(|_| Complaint::BadNumber)
 }
 
 // One part, whose numbers are not checked yet.
@@ -249,10 +267,35 @@ fn plans(words: &mut Words) -> Result<Vec<Plan>, Complaint> {
     }
 }
 
-// A part that a line names: what it is to be made of, and the number of the line.
+// Bytes that are in a part's memory when it is made, and the number of their line.
+struct Cells {
+    line: usize,
+    address: u32,
+    bytes: Vec<u8>,
+}
+
+// A part that a line names: what it is to be made of, the number of the line, and what is in its memory.
 struct Named {
     line: usize,
     plans: Vec<Plan>,
+    cells: Vec<Cells>,
+}
+
+impl Cells {
+    fn put(&self, pile: &mut Pile) -> Result<(), Unreadable> {
+        let mut address = u64::from(self.address);
+        for &byte in &self.bytes {
+            if address >= u64::from(pile.size()) {
+                return Err(Unreadable {
+                    line: self.line,
+                    complaint: Complaint::OutsidePart,
+                });
+            }
+            pile.poke(address as u32, byte);
+            address += 1;
+        }
+        Ok(())
+    }
 }
 
 impl Named {
@@ -264,7 +307,7 @@ impl Named {
             let complaint = Complaint::Unfit;
             return Err(Unreadable { line, complaint });
         }
-        for plan in self.plans {
+        for plan in &self.plans {
             let next = plan
                 .make()
                 .map_err(|complaint| Unreadable { line, complaint })?;
@@ -273,7 +316,11 @@ impl Named {
                 Some(pile) => Pile::Joined(Box::new(Joined::new(pile, next))),
             });
         }
-        Ok(pile.expect("there is one part at least"))
+        let mut pile = pile.expect("there is one part at least");
+        for cells in &self.cells {
+            cells.put(&mut pile)?;
+        }
+        Ok(pile)
     }
 }
 
@@ -288,7 +335,8 @@ fn name_part(
     if part.is_some() {
         return Err(twice);
     }
-    *part = Some(Named { line, plans });
+    let cells = Vec::new();
+    *part = Some(Named { line, plans, cells });
     Ok(())
 }
 
@@ -315,6 +363,7 @@ fn call(name: &[u8], words: &mut Words) -> Result<Call, Complaint> {
             us: words.number()?,
         },
         b"quiet" => Call::Quiet,
+        b"anew" => Call::Anew,
         _ => return Err(Complaint::UnknownWord),
     };
     words.end()?;
@@ -329,6 +378,30 @@ struct Reader<'a> {
 }
 
 impl<'a> Reader<'a> {
+    fn read_cells(&mut self, line: usize, words: &mut Words) -> Result<(), Complaint> {
+        let part = match words.must(Complaint::NoConsole)? {
+            b"quick" => &mut self.quick,
+            b"slow" => &mut self.slow,
+            _ => return Err(Complaint::UnknownConsole),
+        };
+        let address = words.number()?;
+        let mut bytes = vec![words.byte()?];
+        while let Some(word) = words.next() {
+            bytes.push(byte(word)?);
+        }
+        match part {
+            Some(part) if self.steps.is_empty() => {
+                part.cells.push(Cells {
+                    line,
+                    address,
+                    bytes,
+                });
+                Ok(())
+            }
+            _ => Err(Complaint::CellsOutOfPlace),
+        }
+    }
+
     fn read_line(&mut self, number: usize, line: &'a [u8]) -> Result<(), Complaint> {
         if !line.iter().all(|byte| (0x20..=0x7E).contains(byte)) {
             return Err(Complaint::NotPrintable);
@@ -340,6 +413,7 @@ impl<'a> Reader<'a> {
             None => {}
             Some(b"quick") => name_part(number, &mut words, &mut self.quick, Complaint::QuickTwice)?,
             Some(b"slow") => name_part(number, &mut words, &mut self.slow, Complaint::SlowTwice)?,
+            Some(b"cells") => self.read_cells(number, &mut words)?,
             Some(name) => {
                 let call = call(name, &mut words)?;
                 if self.quick.is_none() || self.slow.is_none() {

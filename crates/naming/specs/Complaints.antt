@@ -1,7 +1,7 @@
 -- The words in which is told what is wrong with a line.
 use Rattle.std.specs.Prelude.{ℕ, List, codes}
 use Rattle.naming.specs.declared.wrong.Wrong.{Wrong}
-use Rattle.naming.specs.declared.wrong.Wrong.TheVariants.{NotPrintable, NoWord, UnknownWord, NoPiece, UnknownPiece, NoGeometry, UnknownGeometry, NoNumber, BadNumber, TooManyWords, TooManyPieces, QuickTwice, SlowTwice, TooEarly, NoQuick, NoSlow}
+use Rattle.naming.specs.declared.wrong.Wrong.TheVariants.{NotPrintable, NoWord, UnknownWord, NoPiece, UnknownPiece, NoGeometry, UnknownGeometry, NoNumber, BadNumber, TooManyWords, TooManyPieces, QuickTwice, SlowTwice, TooEarly, NoQuick, NoSlow, NoConsole, UnknownConsole, CellsOutOfPlace, OutsidePart}
 
 abbrev pub wrong_text : Wrong → List ℕ
 wrong_text NotPrintable = codes "not printable ASCII"
@@ -20,3 +20,7 @@ wrong_text SlowTwice = codes "slow is named twice"
 wrong_text TooEarly = codes "a call before quick and slow"
 wrong_text NoQuick = codes "quick is missing"
 wrong_text NoSlow = codes "slow is missing"
+wrong_text NoConsole = codes "quick or slow is missing"
+wrong_text UnknownConsole = codes "a console is quick or slow"
+wrong_text CellsOutOfPlace = codes "cells out of place"
+wrong_text OutsidePart = codes "an address outside the part"

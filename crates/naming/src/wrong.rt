@@ -38,6 +38,14 @@ pub enum Wrong {
     NoQuick,
     /// The script ends without the slow console's part.
     NoSlow,
+    /// No word where a console has to be named.
+    NoConsole,
+    /// A word there that names none.
+    UnknownConsole,
+    /// Cells of a console whose part is not named yet, or behind a call.
+    CellsOutOfPlace,
+    /// A cell at an address that the part has not.
+    OutsidePart,
 }
 
 impl fmt::Display for Wrong {
@@ -61,6 +69,10 @@ impl fmt::Display for Wrong {
             Wrong::TooEarly => "a call before quick and slow",
             Wrong::NoQuick => "quick is missing",
             Wrong::NoSlow => "slow is missing",
+            Wrong::NoConsole => "quick or slow is missing",
+            Wrong::UnknownConsole => "a console is quick or slow",
+            Wrong::CellsOutOfPlace => "cells out of place",
+            Wrong::OutsidePart => "an address outside the part",
         })
     }
 }

@@ -1,11 +1,12 @@
 -- What it says of pieces that none of them is unfit.
-use Rattle.std.proofs.Common.{◌≡◌, ℕ, suc, ◌+◌, Bool, true, false, not, ltb, List, [], ◌∷◌, length, Some, None, sym, refl, ◌∙◌, arith}
+use Rattle.std.proofs.Common.{◌≡◌, ℕ, suc, ◌+◌, Bool, true, false, not, ltb, List, [], ◌∷◌, length, Some, None, Option, Result, Ok, sym, refl, ◌∙◌, arith}
 use Rattle.std.proofs.lemmas.Bool.{lt-ltb, true≢false}
 use Rattle.std.proofs.lemmas.Bool.Decides.{nat_tests}
 use Rattle.std.specs.List.{position, position_or_len}
 use Rattle.pile.specs.declared.kind.Kind.{Kind}
 use Rattle.pile.specs.Pieces.{fits}
-use Rattle.pile.specs.Making.{AllFit}
+use Rattle.pile.specs.declared.unmade.Unmade.{Unmade}
+use Rattle.pile.specs.Making.{AllFit, Checked, Answered}
 
 -- A list in which no piece fails the test is one in which each passes it.
 none_unfit : (ks : List Kind) → ltb (position_or_len (λ k. not (fits k)) ks) (length ks) ≡ false → AllFit ks
@@ -26,3 +27,8 @@ all_fit ks e = by (ltb (position_or_len (λ k. not (fits k)) ks) (length ks)) re
     by : (t : Bool) → ltb (position_or_len (λ k. not (fits k)) ks) (length ks) ≡ t → AllFit ks
     by true h = let f : Some (position_or_len (λ k. not (fits k)) ks) ≡ None = rw h at e in let z : ◌≡◌ {A = ℕ} 0 1 = cc in absurd (omega arith)
     by false h = none_unfit ks h
+
+-- Nothing stands against what was admitted.
+pub admitted : {P : Type 0} (o : Option Unmade) (r : Result (Unit {0}) Unmade) (x : Unit {0}) (p : P) → Checked o tt r → r ≡ Ok x → Answered o (Ok p)
+admitted None r x p h e = tt
+admitted (Some o) r x p h e = absurd cc

@@ -1,1 +1,3 @@
 pub mod Fitting
+pub mod Sharing
+pub mod Building

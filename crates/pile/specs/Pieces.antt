@@ -1,9 +1,9 @@
 -- The pieces of a pile.
-use Rattle.std.specs.Prelude.{Bool, List, [], ◌∷◌, replicate}
+use Rattle.std.specs.Prelude.{ℕ, Bool, List, [], ◌∷◌, ◌++◌, length, drop, replicate}
 use Rattle.geometry.specs.Plans.{plan_of}
 use Rattle.chip.specs.Setups as chips
 use Rattle.chip.specs.Making.{fresh}
-use Rattle.part.specs.Meaning.{Meaning}
+use Rattle.part.specs.Meaning.{Meaning, with_cells}
 use Rattle.array.specs.Limits as arrays
 use Rattle.array.specs.Means.{blank}
 use Rattle.joined.specs.Pile.{made}
@@ -26,3 +26,7 @@ piece_of (Array l) = blank l
 abbrev pub piled : Meaning → List Kind → Meaning
 piled m [] = m
 piled m (k ∷ ks) = piled (made m (piece_of k)) ks
+
+-- the same part with these cells from address 0 on, and behind them its own
+abbrev pub begun_with : List ℕ → Meaning → Meaning
+begun_with cells m = with_cells m (cells ++ drop (length cells) m.cells)

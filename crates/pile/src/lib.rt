@@ -8,7 +8,7 @@ mod pile;
 mod unmade;
 
 pub use kind::Kind;
-pub use making::make;
+pub use making::{make, size};
 pub use one_of::OneOf;
 pub use pile::{Four, Piece, Pile, Three, Two};
 pub use unmade::Unmade;

@@ -1,16 +1,17 @@
 // The making of a pile.
-ghost use Rattle.std.specs.Prelude.{◌≡◌, ◌≤◌, true, not, ◌∷◌, length, position, IfOk, OnOk};
+ghost use Rattle.std.specs.Prelude.{◌≡◌, ◌≤◌, true, not, [], ◌∷◌, length, take, drop, position, IfOk, OnOk};
+ghost use Rattle.part.specs.Meaning.{size, shape_of};
 ghost use Rattle.joined.specs.Pile.{made};
-ghost use Rattle.pile.specs.Pieces.{fits, piece_of, piled};
-ghost use Rattle.pile.specs.Making.{objection, Answered, AllFit};
+ghost use Rattle.pile.specs.Pieces.{fits, piece_of, piled, begun_with};
+ghost use Rattle.pile.specs.Making.{objection, size_of, objection_to, beside, Checked, Answered, AllFit};
 
 use crate::kind::Kind;
 use crate::one_of::OneOf;
-use crate::pile::{Piece, Pile};
+use crate::pile::{Four, Piece, Pile, Three, Two};
 use crate::unmade::Unmade;
 use array::UNFIT;
-use joined::Joined;
-use part::Part;
+use joined::{Joined, MOST_BLOCKS, MOST_BYTES};
+use part::{Part, Shape, Standing};
 use std::alloc::{AllocError, Global};
 
 // The most pieces that a pile has behind its first.
@@ -36,7 +37,7 @@ fn first_unfit(first: &Kind, more: &[Kind]) -> Option<usize>
 
 // Refuses more than four pieces, and the first piece whose numbers do not fit.
 fn check(first: &Kind, more: &[Kind]) -> Result<(), Unmade>
-    ensures answered { Answered (objection first.now more.now) result }
+    ensures answered { Checked (objection first.now more.now) tt result }
     ensures few { OnOk result (length more.now ≤ 3) }
     ensures fit { OnOk result (AllFit (first.now ∷ more.now)) }
 {
@@ -52,41 +53,179 @@ fn check(first: &Kind, more: &[Kind]) -> Result<(), Unmade>
     }
 }
 
-// A part and a new piece behind it.
-fn put<P: Part + Drop>(heap: Global, part: P, kind: &Kind) -> Result<Joined<P, Piece>, AllocError>
-    requires { fits kind.now ≡ true }
-    ensures { IfOk result (λ both. ⟦<Joined<P, Piece> as Part>⟧.means both ≡ made (P.Part.means part) (piece_of kind.now)) }
+// The shape of two new parts end to end.
+fn beside(first: Shape, second: Shape) -> Shape
+    ensures { result ≡ beside first second }
 {
-    Ok(Joined::new(part, kind.build(heap)?))
+    let size = u64::from(first.size) + u64::from(second.size);
+    let blocks = u64::from(first.blocks) + u64::from(second.blocks);
+    if size <= u64::from(MOST_BYTES) && blocks <= u64::from(MOST_BLOCKS) {
+        Shape {
+            size: size as u32,
+            blocks: blocks as u32,
+            standing: Standing::Idle,
+        }
+    } else {
+        Shape {
+            size: 0,
+            blocks: 0,
+            standing: Standing::Idle,
+        }
+    }
 }
 
-// The new pieces joined from left to right.
-fn assemble(heap: Global, first: Kind, more: &[Kind]) -> Result<Pile, AllocError>
+// The cells of two sides, the first of which has so many bytes.
+fn shares(cells: &[u8], size: u32) -> (&[u8], &[u8])
+    ensures first { result.0.now ≡ take size cells.now }
+    ensures second { result.1.now ≡ drop size cells.now }
+{
+    cells.split_at(cells.len().min(size as usize))
+}
+
+// A part and a new piece behind it, which begins with these cells.
+fn put<P: Part + Drop>(
+    heap: Global,
+    part: P,
+    kind: &Kind,
+    cells: &[u8],
+) -> Result<Joined<P, Piece>, AllocError>
+    requires fits { fits kind.now ≡ true }
+    requires few { length cells.now ≤ size (piece_of kind.now) }
+    ensures { IfOk result (λ both. ⟦<Joined<P, Piece> as Part>⟧.means both ≡ made (P.Part.means part) (begun_with cells.now (piece_of kind.now))) }
+{
+    Ok(Joined::new(part, kind.build(heap, cells)?))
+}
+
+// The shape of two new pieces end to end.
+#[tactic(auto, using(crate::proofs::Sharing::shape_of_two))]
+fn shape_of_two(a: &Kind, b: &Kind) -> Shape
+    requires { AllFit (a.now ∷ b.now ∷ []) }
+    ensures { result ≡ shape_of (piled (piece_of a.now) (b.now ∷ [])) }
+{
+    beside(a.shape(), b.shape())
+}
+
+// The shape of three.
+#[tactic(auto, using(crate::proofs::Sharing::shape_of_three))]
+fn shape_of_three(a: &Kind, b: &Kind, c: &Kind) -> Shape
+    requires { AllFit (a.now ∷ b.now ∷ c.now ∷ []) }
+    ensures { result ≡ shape_of (piled (piece_of a.now) (b.now ∷ c.now ∷ [])) }
+{
+    beside(shape_of_two(a, b), c.shape())
+}
+
+// The shape of four.
+#[tactic(auto, using(crate::proofs::Sharing::shape_of_four))]
+fn shape_of_four(a: &Kind, b: &Kind, c: &Kind, d: &Kind) -> Shape
+    requires { AllFit (a.now ∷ b.now ∷ c.now ∷ d.now ∷ []) }
+    ensures { result ≡ shape_of (piled (piece_of a.now) (b.now ∷ c.now ∷ d.now ∷ [])) }
+{
+    beside(shape_of_three(a, b, c), d.shape())
+}
+
+// Two new pieces end to end, which begin with these cells.
+fn two(heap: Global, a: &Kind, b: &Kind, cells: &[u8]) -> Result<Two, AllocError>
+    requires fit { AllFit (a.now ∷ b.now ∷ []) }
+    requires few { length cells.now ≤ size_of a.now (b.now ∷ []) }
+    ensures { IfOk result (λ two. ⟦<Two as Part>⟧.means two ≡ begun_with cells.now (piled (piece_of a.now) (b.now ∷ []))) }
+{
+    let (front, back) = shares(cells, a.shape().size);
+    put(heap, a.build(heap, front)?, b, back)
+}
+
+// Three of them.
+fn three(heap: Global, a: &Kind, b: &Kind, c: &Kind, cells: &[u8]) -> Result<Three, AllocError>
+    requires fit { AllFit (a.now ∷ b.now ∷ c.now ∷ []) }
+    requires few { length cells.now ≤ size_of a.now (b.now ∷ c.now ∷ []) }
+    ensures { IfOk result (λ three. ⟦<Three as Part>⟧.means three ≡ begun_with cells.now (piled (piece_of a.now) (b.now ∷ c.now ∷ []))) }
+{
+    let (front, back) = shares(cells, shape_of_two(a, b).size);
+    put(heap, two(heap, a, b, front)?, c, back)
+}
+
+// Four of them.
+fn four(
+    heap: Global,
+    a: &Kind,
+    b: &Kind,
+    c: &Kind,
+    d: &Kind,
+    cells: &[u8],
+) -> Result<Four, AllocError>
+    requires fit { AllFit (a.now ∷ b.now ∷ c.now ∷ d.now ∷ []) }
+    requires few { length cells.now ≤ size_of a.now (b.now ∷ c.now ∷ d.now ∷ []) }
+    ensures { IfOk result (λ four. ⟦<Four as Part>⟧.means four ≡ begun_with cells.now (piled (piece_of a.now) (b.now ∷ c.now ∷ d.now ∷ []))) }
+{
+    let (front, back) = shares(cells, shape_of_three(a, b, c).size);
+    put(heap, three(heap, a, b, c, front)?, d, back)
+}
+
+// The new pieces joined from left to right, with these cells in front and FFh behind them.
+fn assemble(heap: Global, a: &Kind, more: &[Kind], cells: &[u8]) -> Result<Pile, AllocError>
     requires few { length more.now ≤ 3 }
-    requires fit { AllFit (first ∷ more.now) }
-    ensures { IfOk result (λ pile. ⟦<Pile as Part>⟧.means pile ≡ piled (piece_of first) more.now) }
+    requires fit { AllFit (a.now ∷ more.now) }
+    requires room { length cells.now ≤ size_of a.now more.now }
+    ensures { IfOk result (λ pile. ⟦<Pile as Part>⟧.means pile ≡ begun_with cells.now (piled (piece_of a.now) more.now)) }
 {
-    let one = first.build(heap)?;
-    let Some((second, more)) = more.split_first() else {
-        return Ok(OneOf::Left(OneOf::Left(one)));
+    let Some((b, more)) = more.split_first() else {
+        return Ok(OneOf::Left(OneOf::Left(a.build(heap, cells)?)));
     };
-    let two = put(heap, one, second)?;
-    let Some((third, more)) = more.split_first() else {
-        return Ok(OneOf::Left(OneOf::Right(two)));
+    let Some((c, more)) = more.split_first() else {
+        return Ok(OneOf::Left(OneOf::Right(two(heap, a, b, cells)?)));
     };
-    let three = put(heap, two, third)?;
-    let Some((fourth, _)) = more.split_first() else {
-        return Ok(OneOf::Right(OneOf::Left(three)));
+    let Some((d, _)) = more.split_first() else {
+        return Ok(OneOf::Right(OneOf::Left(three(heap, a, b, c, cells)?)));
     };
-    Ok(OneOf::Right(OneOf::Right(put(heap, three, fourth)?)))
+    Ok(OneOf::Right(OneOf::Right(four(heap, a, b, c, d, cells)?)))
 }
 
-/// Makes a pile of new pieces, FFh throughout, joined from left to right; it is dead if they are too large together. The numbers of every piece are
-/// checked before memory is asked for.
-pub fn make(heap: Global, first: Kind, more: &[Kind]) -> Result<Pile, Unmade>
-    ensures made { IfOk result (λ pile. ⟦<Pile as Part>⟧.means pile ≡ piled (piece_of first) more.now) }
-    ensures answered { Answered (objection first more.now) result }
+// The shape of the new pieces joined from left to right.
+fn shape(a: &Kind, more: &[Kind]) -> Shape
+    requires few { length more.now ≤ 3 }
+    requires fit { AllFit (a.now ∷ more.now) }
+    ensures { result ≡ shape_of (piled (piece_of a.now) more.now) }
 {
-    check(&first, more)?;
-    Ok(assemble(heap, first, more)?)
+    let Some((b, more)) = more.split_first() else {
+        return a.shape();
+    };
+    let Some((c, more)) = more.split_first() else {
+        return shape_of_two(a, b);
+    };
+    let Some((d, _)) = more.split_first() else {
+        return shape_of_three(a, b, c);
+    };
+    shape_of_four(a, b, c, d)
+}
+
+/// How many bytes a pile of these pieces has, or why it cannot be made: the numbers of every piece are checked.
+pub fn size(first: &Kind, more: &[Kind]) -> Result<usize, Unmade>
+    ensures { Checked (objection first.now more.now) (size_of first.now more.now) result }
+{
+    check(first, more)?;
+    Ok(shape(first, more).size as usize)
+}
+
+// Refuses what `check` refuses, and more cells than the pile has.
+#[tactic(auto, unfolding(crate::specs::Making::objection_to))]
+fn admit(first: &Kind, more: &[Kind], cells: usize) -> Result<(), Unmade>
+    ensures answered { Checked (objection_to first.now more.now cells) tt result }
+    ensures few { OnOk result (length more.now ≤ 3) }
+    ensures fit { OnOk result (AllFit (first.now ∷ more.now)) }
+    ensures room { OnOk result (cells ≤ size_of first.now more.now) }
+{
+    check(first, more)?;
+    if cells > shape(first, more).size as usize {
+        return Err(Unmade::TooLong);
+    }
+    Ok(())
+}
+
+/// Makes a pile of new pieces, joined from left to right, with these cells from address 0 on and FFh behind them; it is dead if the pieces are too
+/// large together. The numbers of every piece and the number of the cells are checked before memory is asked for.
+pub fn make(heap: Global, first: Kind, more: &[Kind], cells: &[u8]) -> Result<Pile, Unmade>
+    ensures made { IfOk result (λ pile. ⟦<Pile as Part>⟧.means pile ≡ begun_with cells.now (piled (piece_of first) more.now)) }
+    ensures answered { Answered (objection_to first more.now (length cells.now)) result }
+{
+    admit(&first, more, cells.len())?;
+    Ok(assemble(heap, &first, more, cells)?)
 }

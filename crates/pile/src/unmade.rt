@@ -11,6 +11,8 @@ pub enum Unmade {
     TooMany,
     /// A piece, counted from 0, cannot be made of its numbers.
     Refused { piece: usize, fault: PartFault },
+    /// More cells were given than the part has.
+    TooLong,
     /// There was no memory for a piece's cells.
     Memory,
 }

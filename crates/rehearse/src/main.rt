@@ -7,7 +7,7 @@ mod stage;
 mod stopped;
 
 use parts::part_of;
-use script::read;
+use script::{Who, read};
 use stage::play_on;
 use std::io::{self, BufReader, Read};
 use std::process::ExitCode;
@@ -19,8 +19,8 @@ fn run(rt: &HostRuntime) -> Result<(), Stopped> {
     BufReader::new(heap, rt.reader())?.read_to_end(&mut text)?;
     let script = read(heap, text.as_slice())?;
     let text = text.as_slice();
-    let quick = part_of(heap, text, b"quick", script.quick)?;
-    let slow = part_of(heap, text, b"slow", script.slow)?;
+    let quick = part_of(heap, text, &script, Who::Quick)?;
+    let slow = part_of(heap, text, &script, Who::Slow)?;
     play_on(rt, heap, text, script.steps.as_slice(), quick, slow)
 }
 

@@ -40,7 +40,17 @@ fn list_of(heap: Global, steps: &[Step]) -> Result<Option<(Seats, Seats, Vec<Row
 }
 
 impl<P: Part + Drop> Stage<P> {
-    // Makes one request of both consoles.
+    // Both consoles made anew, closed, over their parts as they stand.
+    fn anew(self) -> Stage<P> {
+        let Stage { heap, quick, slow } = self;
+        Stage {
+            heap,
+            quick: Console::new(quick.into_part()),
+            slow: Console::new(slow.into_part()),
+        }
+    }
+
+    // Makes one request of both consoles, or tells what is answered where they were made anew.
     fn ask(&mut self, request: Request) -> (Reply, Reply) {
         match request {
             Request::Open(quick, slow) => (
@@ -55,6 +65,7 @@ impl<P: Part + Drop> Stage<P> {
                 Reply::Quiet(self.quick.quiet()),
                 Reply::Quiet(self.slow.quiet()),
             ),
+            Request::Anew => (Reply::Anew, Reply::Anew),
         }
     }
 
@@ -87,15 +98,19 @@ impl<P: Part + Drop> Stage<P> {
     }
 
     // Makes the steps of a script on both consoles, and prints the account.
-    fn play(&mut self, rt: &HostRuntime, text: &[u8], steps: &[Step]) -> Result<(), Stopped> {
-        let mut sheet = Sheet::new(self.heap, text, io::writer(rt))?;
-        match list_of(self.heap, steps)? {
+    fn play(self, rt: &HostRuntime, text: &[u8], steps: &[Step]) -> Result<(), Stopped> {
+        let mut stage = self;
+        let mut sheet = Sheet::new(stage.heap, text, io::writer(rt))?;
+        match list_of(stage.heap, steps)? {
             Some((quick, slow, mut rows)) => {
-                self.play_list(&mut sheet, steps, quick, slow, rows.as_mut_slice())?;
+                stage.play_list(&mut sheet, steps, quick, slow, rows.as_mut_slice())?;
             }
             None => {
                 for step in steps {
-                    let (quick, slow) = self.ask(step.request);
+                    if let Request::Anew = step.request {
+                        stage = stage.anew();
+                    }
+                    let (quick, slow) = stage.ask(step.request);
                     sheet.add(step, quick, slow)?;
                 }
             }
@@ -113,7 +128,7 @@ pub fn play_on<P: Part + Drop>(
     quick: P,
     slow: P,
 ) -> Result<(), Stopped> {
-    let mut stage = Stage {
+    let stage = Stage {
         heap,
         quick: Console::new(quick),
         slow: Console::new(slow),

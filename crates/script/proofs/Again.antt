@@ -1,8 +1,8 @@
 -- What is written is read again.
 use Rattle.std.proofs.Common.{◌≡◌, ℕ, zero, suc, ◌+◌, ◌-◌, ◌*◌, ◌/◌, ◌%◌, eqb, length, ◌<◌, ◌≤◌, ◌^◌, true, List, [], ◌∷◌, ◌++◌, Some, None, Ok, refl, sym, ap, ◌∙◌, arith}
 use Rattle.std.proofs.Math.Nat.{pow-suc}
-use Rattle.std.specs.Prelude.{codes, replicate}
-use Rattle.std.specs.List.{list_all}
+use Rattle.std.specs.Prelude.{codes, replicate, map}
+use Rattle.std.specs.List.{list_all, AllByRecursion}
 use Rattle.std.specs.Str.Parse.{AllDigits, digits_value}
 use Rattle.std.specs.Fmt.{decimal, digits, digits_onto, digit_glyph}
 use Rattle.std.proofs.lemmas.Fmt.{digits_is_IsNumeral}
@@ -18,13 +18,15 @@ use Rattle.script.specs.declared.entry.Pieces.{Pieces}
 use Rattle.script.specs.declared.entry.Pieces.TheVariants.{One, Two, Three, Four}
 use Rattle.script.specs.declared.entry.Request.{Request}
 use Rattle.script.specs.declared.entry.Request.TheVariants as requests
-use Rattle.script.specs.declared.entry.Entry.{Entry}
-use Rattle.script.specs.declared.entry.Entry.TheVariants as entries
+use Rattle.script.specs.declared.entry.Who.{Who}
+use Rattle.script.specs.declared.entry.Who.TheVariants as consoles
+use Rattle.script.specs.Sayings.{Fill, Saying, all_bytes, bytes_at}
+use Rattle.script.specs.Sayings as says
 use Rattle.script.specs.Answers.{sixteen}
-use Rattle.naming.specs.Taking.{Words, numbered, number_at, small_at, large_at}
+use Rattle.naming.specs.Taking.{Words, numbered, number_at, byte_at, small_at, large_at}
 use Rattle.naming.specs.Setups.{geometry_at, set_at, setup_at}
-use Rattle.script.specs.Grammar.{layout_at, piece_at, joined_at, pieces_of, seats_at, position_of, rest_of, asked, words_read, chip_at}
-use Rattle.script.specs.Laws.{geometry_word, kind_words, pieces_words, call_words, request_words, written, ProperKind, ProperPieces, ProperSeats, ProperCall, ProperRequest, Proper, EntriesAgain, StopsAgain}
+use Rattle.script.specs.Grammar.{layout_at, piece_at, joined_at, pieces_of, seats_at, position_of, rest_of, asked, words_read, chip_at, who_at, fill_at}
+use Rattle.script.specs.Laws.{geometry_word, kind_words, pieces_words, call_words, request_words, who_word, written, ProperKind, ProperPieces, ProperSeats, ProperCall, ProperRequest, ProperFill, Proper, EntriesAgain, StopsAgain}
 use Rattle.script.proofs.Plain.{is_plain, all_append, digits_plain, line_of_words, number_plain}
 
 -- numbers
@@ -105,17 +107,43 @@ call_again (Recall p) h = rw (small_again p [] h) refl
 call_again (Next p) h = rw (small_again p [] h) refl
 call_again (Wait n) h = rw (small_again n [] h) refl
 
-request_again : (r : Request) → ProperRequest r → words_read (request_words r) ≡ Ok (Some (entries.Request r))
+request_again : (r : Request) → ProperRequest r → words_read (request_words r) ≡ Ok (Some (says.Request r))
 unfolding words_read rest_of
 request_again (requests.Open a b) h = rw (seats_again a (decimal b.first ∷ decimal b.second ∷ []) h.0, seats_again b [] h.1) refl
 request_again (requests.Call c) h = call_again c h
 request_again requests.Quiet h = refl
+request_again requests.Anew h = refl
 
-words_again : (e : Entry) → Proper e → words_read (written e) ≡ Ok (Some e)
+-- what is in the memory of a part
+
+who_again : (who : Who) (ws : Words) → who_at (who_word who ∷ ws) ≡ Ok (who, ws)
+unfolding who_at
+who_again consoles.Quick ws = refl
+who_again consoles.Slow ws = refl
+
+byte_again : (n : ℕ) (ws : Words) → n < 2 ^ 8 → byte_at (decimal n ∷ ws) ≡ Ok (n, ws)
+unfolding number_at
+byte_again n ws small = ap (numbered ws) (decimal_again 0xFF n (omega arith) (omega arith))
+
+all_again : (bytes : List ℕ) → AllByRecursion (λ b. b < 2 ^ 8) bytes → all_bytes (map decimal bytes) ≡ Ok bytes
+unfolding all_bytes
+all_again [] h = refl
+all_again (b ∷ bs) h = rw (byte_again b [] h.0, all_again bs h.1) refl
+
+bytes_again : (bytes : List ℕ) → 0 < length bytes → AllByRecursion (λ b. b < 2 ^ 8) bytes → bytes_at (map decimal bytes) ≡ Ok bytes
+bytes_again [] some h = absurd (omega arith)
+bytes_again (b ∷ bs) some h = all_again (b ∷ bs) h
+
+fill_again : (f : Fill) → ProperFill f → fill_at (who_word f.who ∷ decimal f.address ∷ map decimal f.bytes) ≡ Ok f
+unfolding fill_at
+fill_again f h = rw (who_again f.who (decimal f.address ∷ map decimal f.bytes), small_again f.address (map decimal f.bytes) h.address, bytes_again f.bytes h.some h.bytes) refl
+
+words_again : (e : Saying) → Proper e → words_read (written e) ≡ Ok (Some e)
 unfolding words_read rest_of
-words_again (entries.Quick p) h = rw (pieces_again p h) refl
-words_again (entries.Slow p) h = rw (pieces_again p h) refl
-words_again (entries.Request r) h = request_again r h
+words_again (says.Quick p) h = rw (pieces_again p h) refl
+words_again (says.Slow p) h = rw (pieces_again p h) refl
+words_again (says.Cells f) h = rw (fill_again f h) refl
+words_again (says.Request r) h = request_again r h
 
 -- the words are plain
 
@@ -161,11 +189,21 @@ request_plain (requests.Open a b) h =
     (number_plain b.second [] (omega (arith, h.1.1)) refl)))
 request_plain (requests.Call c) h = call_plain c h
 request_plain requests.Quiet h = refl
+request_plain requests.Anew h = refl
 
-pub written_plain : (e : Entry) → Proper e → list_all is_plain (written e) ≡ true
-written_plain (entries.Quick p) h = pieces_plain p h
-written_plain (entries.Slow p) h = pieces_plain p h
-written_plain (entries.Request r) h = request_plain r h
+bytes_plain : (bytes : List ℕ) → AllByRecursion (λ b. b < 2 ^ 8) bytes → list_all is_plain (map decimal bytes) ≡ true
+bytes_plain [] h = refl
+bytes_plain (b ∷ bs) h = number_plain b (map decimal bs) (omega (arith, h.0)) (bytes_plain bs h.1)
+
+fill_plain : (who : Who) (n : ℕ) (bytes : List ℕ) → n < 2 ^ 32 → AllByRecursion (λ b. b < 2 ^ 8) bytes → list_all is_plain (codes "cells" ∷ who_word who ∷ decimal n ∷ map decimal bytes) ≡ true
+fill_plain consoles.Quick n bytes small h = number_plain n (map decimal bytes) (omega arith) (bytes_plain bytes h)
+fill_plain consoles.Slow n bytes small h = number_plain n (map decimal bytes) (omega arith) (bytes_plain bytes h)
+
+pub written_plain : (e : Saying) → Proper e → list_all is_plain (written e) ≡ true
+written_plain (says.Quick p) h = pieces_plain p h
+written_plain (says.Slow p) h = pieces_plain p h
+written_plain (says.Cells f) h = fill_plain f.who f.address f.bytes h.address h.bytes
+written_plain (says.Request r) h = request_plain r h
 
 pub entries_again : EntriesAgain
 entries_again e h = line_of_words (written e) (written_plain e h) ∙ words_again e h

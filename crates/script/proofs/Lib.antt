@@ -1,3 +1,4 @@
+pub mod Bytes
 pub mod Printing
 pub mod Cutting
 pub mod Plain

@@ -6,16 +6,16 @@ use Rattle.std.proofs.lemmas.List.{append-nil, length-append, take_at, drop_at}
 use Rattle.std.proofs.lemmas.List.Elements.{All-from_recursion}
 use Rattle.std.proofs.lemmas.List.Splits.{join_with_byte-slice_split}
 use Rattle.script.specs.declared.entry.Pieces.{Pieces}
-use Rattle.script.specs.declared.entry.Entry.{Entry}
-use Rattle.script.specs.declared.entry.Entry.TheVariants as entries
+use Rattle.script.specs.Sayings.{Saying}
+use Rattle.script.specs.Sayings as says
 use Rattle.script.specs.declared.script.Step.{Step}
 use Rattle.script.specs.declared.script.Script.{Script}
 use Rattle.script.specs.declared.unread.Complaint.{Complaint}
 use Rattle.script.specs.declared.unread.Unread.{Unread}
 use Rattle.naming.specs.declared.wrong.Wrong.{Wrong}
-use Rattle.naming.specs.declared.wrong.Wrong.TheVariants.{TooEarly}
+use Rattle.naming.specs.declared.wrong.Wrong.TheVariants.{CellsOutOfPlace, TooEarly}
 use Rattle.script.specs.Grammar.{line_read}
-use Rattle.script.specs.Scripts.{Plan, Sketch, Gives, ◌>>=◌, plan, begun, is_ready, with_step, wrong_at, quick_named, slow_named, said, after_line, with_both, finished, lines_read, lines_of, script_of, Stands}
+use Rattle.script.specs.Scripts.{Patch, Plan, Sketch, Gives, ◌>>=◌, plan, begun, is_ready, may_fill, with_patch, with_step, wrong_at, quick_named, slow_named, said, after_line, with_both, finished, lines_read, lines_of, script_of, Stands}
 
 abbrev EachStands : List ℕ → List Step → Type 0
 EachStands text steps = AllByRecursion (Stands text) steps
@@ -54,23 +54,29 @@ slow_steps : (n : ℕ) (o : Option Pieces) (p : Pieces) (s t : Sketch) → slow_
 slow_steps n None p s t e = ap (λ (x : Sketch). x.steps) (sym (ok_is _ t e))
 slow_steps n (Some q) p s t e = absurd cc
 
-both_steps : (n : ℕ) (q s : Option Pieces) (steps : List Step) (p : Plan) → with_both n q s steps ≡ Ok p → p.steps ≡ steps
-both_steps n None s steps p e = absurd cc
-both_steps n (Some q) None steps p e = absurd cc
-both_steps n (Some q) (Some s) steps p e = ap (λ (x : Plan). x.steps) (sym (ok_is _ p e))
+patch_steps : (n : ℕ) (may : Bool) (x : Patch) (s t : Sketch) → cond may (Ok (with_patch x s)) (wrong_at n CellsOutOfPlace) ≡ Ok t → t.steps ≡ s.steps
+patch_steps n true x s t e = ap (λ (y : Sketch). y.steps) (sym (ok_is _ t e))
+patch_steps n false x s t e = absurd cc
+
+both_steps : (n : ℕ) (q s : Option Pieces) (patches : List Patch) (steps : List Step) (p : Plan) → with_both n q s patches steps ≡ Ok p → p.steps ≡ steps
+both_steps n None s patches steps p e = absurd cc
+both_steps n (Some q) None patches steps p e = absurd cc
+both_steps n (Some q) (Some s) patches steps p e = ap (λ (x : Plan). x.steps) (sym (ok_is _ p e))
 
 request_stands : (n : ℕ) (text : List ℕ) (ready : Bool) (s t : Sketch) (x : Step) → EachStands text s.steps → Stands text x → cond ready (Ok (with_step x s)) (wrong_at n TooEarly) ≡ Ok t → EachStands text t.steps
 request_stands n text true s t x all this e = subst (λ (y : Sketch). EachStands text y.steps) (ok_is (with_step x s) t e) (one_more text s.steps x all this)
 request_stands n text false s t x all this e = absurd cc
 
 -- What a line that lies there adds stands there.
-said_stands : (n a : ℕ) (text line : List ℕ) (s t : Sketch) (o : Result (Option Entry) Wrong) → line_read line ≡ o → LiesAt text line a → EachStands text s.steps
+said_stands : (n a : ℕ) (text line : List ℕ) (s t : Sketch) (o : Result (Option Saying) Wrong) → line_read line ≡ o → LiesAt text line a → EachStands text s.steps
     → said n a (a + length line) s o ≡ Ok t → EachStands text t.steps
 said_stands n a text line s t (Err w) o here all e = absurd cc
 said_stands n a text line s t (Ok None) o here all e = subst (λ (y : Sketch). EachStands text y.steps) (ok_is s t e) all
-said_stands n a text line s t (Ok (Some (entries.Quick p))) o here all e = subst (λ (y : List Step). EachStands text y) (sym (quick_steps n s.quick p s t e)) all
-said_stands n a text line s t (Ok (Some (entries.Slow p))) o here all e = subst (λ (y : List Step). EachStands text y) (sym (slow_steps n s.slow p s t e)) all
-said_stands n a text line s t (Ok (Some (entries.Request r))) o here all e =
+said_stands n a text line s t (Ok (Some (says.Quick p))) o here all e = subst (λ (y : List Step). EachStands text y) (sym (quick_steps n s.quick p s t e)) all
+said_stands n a text line s t (Ok (Some (says.Slow p))) o here all e = subst (λ (y : List Step). EachStands text y) (sym (slow_steps n s.slow p s t e)) all
+said_stands n a text line s t (Ok (Some (says.Cells f))) o here all e =
+    subst (λ (y : List Step). EachStands text y) (sym (patch_steps n (may_fill f.who s) (record { line = n; fill = f }) s t e)) all
+said_stands n a text line s t (Ok (Some (says.Request r))) o here all e =
     request_stands n text (is_ready s) s t (record { request = r; start = a; end = a + length line }) all
     (record { order = omega arith; within = here.within; says = ap line_read here.is ∙ o }) e
 
@@ -82,12 +88,12 @@ line_stands n a text line s t here all e = said_stands n a text line s t (line_r
 lines_stand : (lines : List (List ℕ)) (n : ℕ) (front : List ℕ) (s : Sketch) (p : Plan) → EachStands (front ++ join_with_byte 10 lines) s.steps
     → lines_read n (length front) s lines ≡ Ok p → EachStands (front ++ join_with_byte 10 lines) p.steps
 unfolding lines_read
-lines_stand [] n front s p all e = subst (λ (y : List Step). EachStands (front ++ []) y) (sym (both_steps n s.quick s.slow s.steps p e)) all
+lines_stand [] n front s p all e = subst (λ (y : List Step). EachStands (front ++ []) y) (sym (both_steps n s.quick s.slow s.patches s.steps p e)) all
 lines_stand (line ∷ []) n front s p all e =
     let b = bind_ok (after_line n (length front) s line) (finished n) p e in
     let t = b.0 in
     let here : LiesAt (front ++ line) line (length front) = subst (λ (x : List ℕ). LiesAt (front ++ x) line (length front)) (append-nil line) (lies front line []) in
-    subst (λ (y : List Step). EachStands (front ++ line) y) (sym (both_steps n t.quick t.slow t.steps p b.2)) (line_stands n (length front) (front ++ line) line s t here all b.1)
+    subst (λ (y : List Step). EachStands (front ++ line) y) (sym (both_steps n t.quick t.slow t.patches t.steps p b.2)) (line_stands n (length front) (front ++ line) line s t here all b.1)
 lines_stand (line ∷ next ∷ lines) n front s p all e =
     let more : List ℕ = join_with_byte 10 (next ∷ lines) in
     let text : List ℕ = front ++ (line ++ 10 ∷ more) in

@@ -49,3 +49,4 @@ verdict_text false = codes "different"
 abbrev pub text_of : Reply → List ℕ
 text_of (replies.Answer r) = answer_text r
 text_of (replies.Quiet q) = quiet_text q
+text_of replies.Anew = codes "ok"

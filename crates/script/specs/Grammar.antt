@@ -12,12 +12,14 @@ use Rattle.pile.specs.declared.kind.Kind.TheVariants.{Chip, Array}
 use Rattle.script.specs.declared.entry.Pieces.{Pieces}
 use Rattle.script.specs.declared.entry.Pieces.TheVariants.{One, Two, Three, Four}
 use Rattle.script.specs.declared.entry.Request.TheVariants as requests
-use Rattle.script.specs.declared.entry.Entry.{Entry}
-use Rattle.script.specs.declared.entry.Entry.TheVariants as entries
+use Rattle.script.specs.declared.entry.Who.{Who}
+use Rattle.script.specs.declared.entry.Who.TheVariants as consoles
+use Rattle.script.specs.Sayings.{Fill, Saying, bytes_at}
+use Rattle.script.specs.Sayings as says
 use Rattle.script.specs.declared.head.Head.{Head}
-use Rattle.script.specs.declared.head.Head.TheVariants.{Quick, Slow, Open, Set, Clear, Recall, Next, Wait, Quiet}
+use Rattle.script.specs.declared.head.Head.TheVariants.{Quick, Slow, Open, Set, Clear, Recall, Next, Wait, Quiet, Anew, Cells}
 use Rattle.naming.specs.declared.wrong.Wrong.{Wrong}
-use Rattle.naming.specs.declared.wrong.Wrong.TheVariants.{NotPrintable, UnknownWord, NoPiece, UnknownPiece, TooManyWords, TooManyPieces}
+use Rattle.naming.specs.declared.wrong.Wrong.TheVariants.{NotPrintable, UnknownWord, NoPiece, UnknownPiece, TooManyWords, TooManyPieces, NoConsole, UnknownConsole}
 
 -- a chip by its setup
 unfoldable pub chip_at : Words → Result (Kind × Words) Wrong
@@ -79,10 +81,12 @@ head_of w =
     (if bytes_eq w (codes "quiet") then Some Quiet else
     (if bytes_eq w (codes "open") then Some Open else
     (if bytes_eq w (codes "quick") then Some Quick else
-    (if bytes_eq w (codes "slow") then Some Slow else None))))))))
+    (if bytes_eq w (codes "slow") then Some Slow else
+    (if bytes_eq w (codes "cells") then Some Cells else
+    (if bytes_eq w (codes "anew") then Some Anew else None))))))))))
 
-abbrev pub asked : Call → Entry
-asked c = entries.Request (requests.Call c)
+abbrev pub asked : Call → Saying
+asked c = says.Request (requests.Call c)
 
 -- the two blocks of one console's books
 unfoldable pub seats_at : Words → Result (Seats × Words) Wrong
@@ -92,23 +96,38 @@ seats_at ws = do
   Ok (record { first = first.0; second = second.0 }, second.1)
 
 -- one position, and nothing else
-unfoldable pub position_of : (ℕ → Call) → Words → Result Entry Wrong
+unfoldable pub position_of : (ℕ → Call) → Words → Result Saying Wrong
 position_of call ws = do
   position ← small_at ws
   ended (asked (call position.0)) position.1
 
+-- which console
+unfoldable pub who_at : Words → Result (Who × Words) Wrong
+who_at [] = Err NoConsole
+who_at (w ∷ ws) =
+    if bytes_eq w (codes "quick") then Ok (consoles.Quick, ws) else
+    (if bytes_eq w (codes "slow") then Ok (consoles.Slow, ws) else Err UnknownConsole)
+
+-- a console, an address, and one byte or more
+unfoldable pub fill_at : Words → Result Fill Wrong
+fill_at ws = do
+  who ← who_at ws
+  address ← small_at who.1
+  bytes ← bytes_at address.1
+  Ok (record { who = who.0; address = address.0; bytes = bytes })
+
 -- what the rest of the line says, by its first word
-unfoldable pub rest_of : Head → Words → Result Entry Wrong
+unfoldable pub rest_of : Head → Words → Result Saying Wrong
 rest_of Quick ws = do
   pieces ← pieces_of ws
-  Ok (entries.Quick pieces)
+  Ok (says.Quick pieces)
 rest_of Slow ws = do
   pieces ← pieces_of ws
-  Ok (entries.Slow pieces)
+  Ok (says.Slow pieces)
 rest_of Open ws = do
   quick ← seats_at ws
   slow ← seats_at quick.1
-  ended (entries.Request (requests.Open quick.0 slow.0)) slow.1
+  ended (says.Request (requests.Open quick.0 slow.0)) slow.1
 rest_of Set ws = do
   position ← small_at ws
   stops ← large_at position.1
@@ -117,19 +136,23 @@ rest_of Clear ws = position_of (λ p. calls.Clear p) ws
 rest_of Recall ws = position_of (λ p. calls.Recall p) ws
 rest_of Next ws = position_of (λ p. calls.Next p) ws
 rest_of Wait ws = position_of (λ n. calls.Wait n) ws
-rest_of Quiet ws = ended (entries.Request requests.Quiet) ws
+rest_of Quiet ws = ended (says.Request requests.Quiet) ws
+rest_of Anew ws = ended (says.Request requests.Anew) ws
+rest_of Cells ws = do
+  fill ← fill_at ws
+  Ok (says.Cells fill)
 
-abbrev pub headed : Option Head → Words → Result Entry Wrong
+abbrev pub headed : Option Head → Words → Result Saying Wrong
 headed None ws = Err UnknownWord
 headed (Some h) ws = rest_of h ws
 
 -- A line of no words says nothing.
-unfoldable pub words_read : Words → Result (Option Entry) Wrong
+unfoldable pub words_read : Words → Result (Option Saying) Wrong
 words_read [] = Ok None
 words_read (w ∷ ws) = do
   entry ← headed (head_of w) ws
   Ok (Some entry)
 
 -- what a line says, if anything
-unfoldable pub line_read : List ℕ → Result (Option Entry) Wrong
+unfoldable pub line_read : List ℕ → Result (Option Saying) Wrong
 line_read line = if is_printable line then words_read (words_of (uncommented line)) else Err NotPrintable

@@ -14,13 +14,15 @@ use Rattle.script.specs.declared.entry.Pieces.{Pieces}
 use Rattle.script.specs.declared.entry.Pieces.TheVariants.{One, Two, Three, Four}
 use Rattle.script.specs.declared.entry.Request.{Request}
 use Rattle.script.specs.declared.entry.Request.TheVariants as requests
-use Rattle.script.specs.declared.entry.Entry.{Entry}
-use Rattle.script.specs.declared.entry.Entry.TheVariants as entries
+use Rattle.script.specs.declared.entry.Who.{Who}
+use Rattle.script.specs.declared.entry.Who.TheVariants as consoles
+use Rattle.script.specs.Sayings.{Fill, Saying}
+use Rattle.script.specs.Sayings as says
 use Rattle.script.specs.declared.script.Step.{Step}
 use Rattle.script.specs.Answers.{sixteen}
 use Rattle.naming.specs.Taking.{Words}
 use Rattle.script.specs.Grammar.{asked, line_read}
-use Rattle.script.specs.Scripts.{Plan, script_of}
+use Rattle.script.specs.Scripts.{Patch, Plan, script_of}
 
 -- The words of each entry, with all its numbers in decimal and both sets of blocks, each as its mask.
 
@@ -53,11 +55,20 @@ abbrev pub request_words : Request → Words
 request_words (requests.Open a b) = codes "open" ∷ decimal a.first ∷ decimal a.second ∷ decimal b.first ∷ decimal b.second ∷ []
 request_words (requests.Call c) = call_words c
 request_words requests.Quiet = codes "quiet" ∷ []
+request_words requests.Anew = codes "anew" ∷ []
 
-abbrev pub written : Entry → Words
-written (entries.Quick p) = codes "quick" ∷ pieces_words p
-written (entries.Slow p) = codes "slow" ∷ pieces_words p
-written (entries.Request r) = request_words r
+abbrev pub who_word : Who → List ℕ
+who_word consoles.Quick = codes "quick"
+who_word consoles.Slow = codes "slow"
+
+abbrev pub fill_words : Fill → Words
+fill_words f = codes "cells" ∷ who_word f.who ∷ decimal f.address ∷ map decimal f.bytes
+
+abbrev pub written : Saying → Words
+written (says.Quick p) = codes "quick" ∷ pieces_words p
+written (says.Slow p) = codes "slow" ∷ pieces_words p
+written (says.Cells f) = fill_words f
+written (says.Request r) = request_words r
 
 -- The numbers fit their types, and a chip has one of the three geometries.
 
@@ -93,36 +104,45 @@ abbrev pub ProperRequest : Request → Type 0
 ProperRequest (requests.Open a b) = ProperSeats a × ProperSeats b
 ProperRequest (requests.Call c) = ProperCall c
 ProperRequest requests.Quiet = Unit {0}
+ProperRequest requests.Anew = Unit {0}
 
-abbrev pub Proper : Entry → Type 0
-Proper (entries.Quick p) = ProperPieces p
-Proper (entries.Slow p) = ProperPieces p
-Proper (entries.Request r) = ProperRequest r
+-- one byte or more
+pub record ProperFill (f : Fill) : Type 0 where
+  pub address : f.address < 2 ^ 32
+  pub some : 0 < length f.bytes
+  pub bytes : AllByRecursion (λ b. b < 2 ^ 8) f.bytes
+
+abbrev pub Proper : Saying → Type 0
+Proper (says.Quick p) = ProperPieces p
+Proper (says.Slow p) = ProperPieces p
+Proper (says.Cells f) = ProperFill f
+Proper (says.Request r) = ProperRequest r
 
 -- Each entry that is written in its words is read as that entry.
 abbrev pub EntriesAgain : Type 0
-EntriesAgain = (e : Entry) → Proper e → line_read (spaced (written e)) ≡ Ok (Some e)
+EntriesAgain = (e : Saying) → Proper e → line_read (spaced (written e)) ≡ Ok (Some e)
 
 -- The stops that a recall shows, put behind 0x, set the same stops again.
 abbrev pub StopsAgain : Type 0
 StopsAgain = (p stops : ℕ) → p < 2 ^ 32 → stops < 2 ^ 64
     → (length (sixteen stops) ≡ 16) × (line_read (spaced (codes "set" ∷ decimal p ∷ (codes "0x" ++ sixteen stops) ∷ [])) ≡ Ok (Some (asked (Set p stops))))
 
--- The lines of a script that names both parts and then makes requests.
-abbrev pub script_entries : Pieces → Pieces → List Request → List Entry
-script_entries quick slow requests = entries.Quick quick ∷ entries.Slow slow ∷ map (λ r. entries.Request r) requests
+-- The lines of a script that names both parts, says what is in their memory, and then makes requests.
+abbrev pub script_entries : Pieces → Pieces → List Fill → List Request → List Saying
+script_entries quick slow fills requests = says.Quick quick ∷ says.Slow slow ∷ (map (λ f. says.Cells f) fills ++ map (λ r. says.Request r) requests)
 
 -- entries, each on a line of its own
-abbrev pub script_text : List Entry → List ℕ
+abbrev pub script_text : List Saying → List ℕ
 script_text es = flat_map (λ e. spaced (written e) ++ 10 ∷ []) es
 
--- the parts and the requests of a script
-pub record IsScript (quick slow : Pieces) (requests : List Request) (p : Plan) : Type 0 where
+-- the parts, what is in their memory, and the requests of a script
+pub record IsScript (quick slow : Pieces) (fills : List Fill) (requests : List Request) (p : Plan) : Type 0 where
   pub quick_is : p.quick ≡ quick
   pub slow_is : p.slow ≡ slow
+  pub fills_are : map (λ (x : Patch). x.fill) p.patches ≡ fills
   pub requests_are : map (λ (x : Step). x.request) p.steps ≡ requests
 
 -- A script that is written line by line is read as that script.
 abbrev pub ScriptsAgain : Type 0
-ScriptsAgain = (quick slow : Pieces) (requests : List Request) → AllByRecursion Proper (script_entries quick slow requests)
-    → (p : Plan) × (script_of (script_text (script_entries quick slow requests)) ≡ Ok p) × IsScript quick slow requests p
+ScriptsAgain = (quick slow : Pieces) (fills : List Fill) (requests : List Request) → AllByRecursion Proper (script_entries quick slow fills requests)
+    → (p : Plan) × (script_of (script_text (script_entries quick slow fills requests)) ≡ Ok p) × IsScript quick slow fills requests p

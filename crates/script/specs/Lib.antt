@@ -1,3 +1,4 @@
+pub mod Sayings
 pub mod Grammar
 pub mod Alike
 pub mod Answers

@@ -14,6 +14,8 @@ pub(crate) enum Head {
     Next,
     Wait,
     Quiet,
+    Anew,
+    Cells,
 }
 
 impl Head {
@@ -38,6 +40,10 @@ impl Head {
             Some(Head::Quick)
         } else if word == b"slow".as_slice() {
             Some(Head::Slow)
+        } else if word == b"cells".as_slice() {
+            Some(Head::Cells)
+        } else if word == b"anew".as_slice() {
+            Some(Head::Anew)
         } else {
             None
         }

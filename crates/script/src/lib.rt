@@ -14,8 +14,8 @@ mod unread;
 
 pub use account::{push_line, push_total};
 pub use draft::read;
-pub use entry::{Entry, Pieces, Request};
+pub use entry::{Cells, Entry, Pieces, Request, Who};
 pub use reading::parse;
 pub use replies::Reply;
-pub use script::{Script, Step};
+pub use script::{Patch, Script, Step};
 pub use unread::{Complaint, Unread};

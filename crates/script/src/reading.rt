@@ -3,17 +3,18 @@ ghost use Rattle.std.specs.Prelude.{◌≡◌, ℕ};
 ghost use Rattle.std.specs.Option.{option_map};
 ghost use Rattle.words.specs.Lines.{words_of};
 ghost use Rattle.naming.specs.Taking.{Gives};
-ghost use Rattle.script.specs.Grammar.{layout_at, piece_at, joined_at, asked, pieces_of, seats_at, position_of, rest_of, words_read, line_read, chip_at};
+ghost use Rattle.script.specs.Grammar.{layout_at, piece_at, joined_at, asked, pieces_of, seats_at, position_of, rest_of, words_read, line_read, chip_at, who_at, fill_at};
+ghost use Rattle.script.specs.Sayings.{saying_of, fill, bytes_at, bytes_in};
 ghost use Rattle.script.specs.Laws.{EntriesAgain, StopsAgain};
 
-use crate::entry::{Entry, Pieces, Request};
+use crate::entry::{Cells, Entry, Pieces, Request, Who};
 use crate::head::Head;
 use array::Layout;
 use console::Call;
 use naming::{Wrong, ended, take_setup, take_u32, take_u64};
 use pile::Kind;
 use rehearsal::Seats;
-use words::{is_printable, next_word, uncommented};
+use words::{is_printable, next_word, number, uncommented};
 
 #[tactic(auto, unfolding(crate::specs::Grammar::chip_at))]
 fn chip(line: &[u8]) -> Result<(Kind, &[u8]), Wrong>
@@ -94,16 +95,64 @@ fn seats(line: &[u8]) -> Result<(Seats, &[u8]), Wrong>
     Ok((Seats { first, second }, rest))
 }
 
-fn asked(call: Call) -> Entry
-    ensures { result ≡ asked call }
+#[tactic(auto, unfolding(crate::specs::Grammar::who_at))]
+fn who(line: &[u8]) -> Result<(Who, &[u8]), Wrong>
+    ensures { Gives (λ x. (x.0, words_of x.1.now)) result (who_at (words_of line.now)) }
+{
+    let Some((word, rest)) = next_word(line) else {
+        return Err(Wrong::NoConsole);
+    };
+    if word == b"quick".as_slice() {
+        Ok((Who::Quick, rest))
+    } else if word == b"slow".as_slice() {
+        Ok((Who::Slow, rest))
+    } else {
+        Err(Wrong::UnknownConsole)
+    }
+}
+
+// One byte or more, to the end of the line.
+#[tactic(auto, using(crate::proofs::Bytes::one_byte, crate::proofs::Bytes::bad_byte, crate::proofs::Bytes::no_bytes, crate::proofs::Bytes::all_right, crate::proofs::Bytes::all_wrong, crate::proofs::Bytes::begins))]
+fn bytes(line: &[u8]) -> Result<&[u8], Wrong>
+    ensures { Gives (λ x. bytes_in x.now) result (bytes_at (words_of line.now)) }
+{
+    if next_word(line).is_none() {
+        return Err(Wrong::NoNumber);
+    }
+    let mut rest = line;
+    while let Some((word, after)) = next_word(rest) {
+        if number(word, u64::from(u8::MAX)).is_none() {
+            return Err(Wrong::BadNumber);
+        }
+        rest = after;
+    }
+    Ok(line)
+}
+
+#[tactic(auto, unfolding(crate::specs::Grammar::fill_at))]
+fn cells(line: &[u8]) -> Result<Cells<'_>, Wrong>
+    ensures { Gives (λ x. fill x) result (fill_at (words_of line.now)) }
+{
+    let (who, rest) = who(line)?;
+    let (address, rest) = take_u32(rest)?;
+    let bytes = bytes(rest)?;
+    Ok(Cells {
+        who,
+        address,
+        bytes,
+    })
+}
+
+fn asked<'a>(call: Call) -> Entry<'a>
+    ensures { saying_of result ≡ asked call }
 {
     Entry::Request(Request::Call(call))
 }
 
 // What the rest of a line says, by its first word.
-#[tactic(auto, unfolding(crate::specs::Grammar::rest_of, crate::specs::Grammar::position_of))]
-fn rest_of(head: Head, line: &[u8]) -> Result<Entry, Wrong>
-    ensures { result ≡ rest_of head (words_of line.now) }
+#[tactic(auto, using(crate::proofs::Bytes::ended_said), unfolding(crate::specs::Grammar::rest_of, crate::specs::Grammar::position_of))]
+fn rest_of(head: Head, line: &[u8]) -> Result<Entry<'_>, Wrong>
+    ensures { Gives (λ x. saying_of x) result (rest_of head (words_of line.now)) }
 {
     match head {
         Head::Quick => Ok(Entry::Quick(pieces(line)?)),
@@ -135,12 +184,14 @@ fn rest_of(head: Head, line: &[u8]) -> Result<Entry, Wrong>
             ended(asked(Call::Wait { us }), rest)
         }
         Head::Quiet => ended(Entry::Request(Request::Quiet), line),
+        Head::Anew => ended(Entry::Request(Request::Anew), line),
+        Head::Cells => Ok(Entry::Cells(cells(line)?)),
     }
 }
 
 #[tactic(auto, unfolding(crate::specs::Grammar::words_read))]
-fn read_words(line: &[u8]) -> Result<Option<Entry>, Wrong>
-    ensures { result ≡ words_read (words_of line.now) }
+fn read_words(line: &[u8]) -> Result<Option<Entry<'_>>, Wrong>
+    ensures { Gives (option_map saying_of) result (words_read (words_of line.now)) }
 {
     let Some((word, rest)) = next_word(line) else {
         return Ok(None);
@@ -153,8 +204,8 @@ fn read_words(line: &[u8]) -> Result<Option<Entry>, Wrong>
 
 /// What a line of a script says; none where it has no word. The first thing that is wrong with it, from left to right.
 #[tactic(auto, unfolding(crate::specs::Grammar::line_read), using(crate::proofs::Again::entries_again))]
-pub fn parse(line: &[u8]) -> Result<Option<Entry>, Wrong>
-    ensures value { result ≡ line_read line.now }
+pub fn parse(line: &[u8]) -> Result<Option<Entry<'_>>, Wrong>
+    ensures value { Gives (option_map saying_of) result (line_read line.now) }
     // What is written is read again, and so are the stops that a recall shows.
     ensures again { EntriesAgain }
     ensures stops { StopsAgain }

@@ -15,6 +15,8 @@ pub enum Reply {
     /// To open, or to one of the five calls.
     Answer(Result<Answer, ConsoleFault>),
     Quiet(bool),
+    /// To be made anew, which nothing can refuse.
+    Anew,
 }
 
 impl fmt::Display for Reply {
@@ -24,6 +26,7 @@ impl fmt::Display for Reply {
         match *self {
             Reply::Answer(answer) => AnswerText(answer).fmt(f),
             Reply::Quiet(quiet) => QuietText(quiet).fmt(f),
+            Reply::Anew => f.write_str("ok"),
         }
     }
 }
@@ -36,6 +39,7 @@ impl Reply {
         match (self, other) {
             (Reply::Answer(a), Reply::Answer(b)) => same_answer(a, b),
             (Reply::Quiet(a), Reply::Quiet(b)) => a == b,
+            (Reply::Anew, Reply::Anew) => true,
             _ => false,
         }
     }

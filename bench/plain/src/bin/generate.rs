@@ -72,6 +72,11 @@ impl Part {
         self.blocks.extend(other.blocks);
     }
 
+    /// Where a block begins.
+    fn start_of(&self, number: usize) -> u32 {
+        self.blocks[..number].iter().map(|block| block.size).sum()
+    }
+
     /// The blocks of a size, those with a mark only where they are wanted.
     fn of_size(&self, size: u32, marked: bool) -> Vec<usize> {
         let fits = |&i: &usize| self.blocks[i].size == size && (marked || !self.blocks[i].marked);
@@ -290,18 +295,96 @@ impl Habits {
     }
 }
 
-/// The two parts of a script, and an open on blocks of one size in each.
-fn opening(random: &mut Random, habits: &mut Habits, size: u32, marked: bool) -> [String; 3] {
+/// Where the two books of a console lie in its part, and how large they are.
+struct Seated {
+    first: u32,
+    second: u32,
+    size: u32,
+}
+
+/// The two parts of a script, where the books lie in each, and an open on blocks of one size in each.
+struct Opening {
+    quick: String,
+    slow: String,
+    quick_seats: Seated,
+    slow_seats: Seated,
+    open: String,
+}
+
+fn opening(random: &mut Random, habits: &mut Habits, size: u32, marked: bool) -> Opening {
     let quick = part(random, habits.size, habits.marks);
     let slow = part(random, size, habits.marks);
     habits.blocks = quick.blocks.len().max(slow.blocks.len()) as u64;
     let (a, b) = seats(random, &quick, habits.size, marked);
     let (c, d) = seats(random, &slow, size, marked);
-    [
-        format!("quick {}", quick.text),
-        format!("slow {}", slow.text),
-        format!("open {a} {b} {c} {d}"),
-    ]
+    Opening {
+        quick: format!("quick {}", quick.text),
+        slow: format!("slow {}", slow.text),
+        quick_seats: Seated {
+            first: quick.start_of(a),
+            second: quick.start_of(b),
+            size: habits.size,
+        },
+        slow_seats: Seated {
+            first: slow.start_of(c),
+            second: slow.start_of(d),
+            size,
+        },
+        open: format!("open {a} {b} {c} {d}"),
+    }
+}
+
+/// Bytes that lie so many bytes behind the start of a book.
+type Piece = (u32, Vec<u8>);
+
+/// A line of a page: stops, or a position that is empty.
+fn stored(random: &mut Random) -> [u8; 8] {
+    if random.chance(25) {
+        [0xFF; 8]
+    } else {
+        (random.next() >> 1).to_be_bytes()
+    }
+}
+
+/// A book in use, of which some positions were written.
+fn book(random: &mut Random, size: u32) -> Vec<Piece> {
+    let mut pieces = vec![(0, vec![0])];
+    for position in 1..size / 64 {
+        if random.chance(40) {
+            let used = random.range(0, 7);
+            let mut page = vec![0xFF; 8];
+            page[0] = (0xFFu32 << used) as u8;
+            for _ in 0..used {
+                page.extend(stored(random));
+            }
+            pieces.push((64 * position, page));
+        }
+    }
+    pieces
+}
+
+/// Spoils a book: a byte anywhere, a head, or a tally.
+fn spoil(random: &mut Random, size: u32) -> Piece {
+    let byte = (random.next() >> 40) as u8;
+    let byte = *random.pick(&[0x00, 0xFE, 0x80, byte]);
+    let place = random.range(0, size - 1);
+    let page = 64 * random.below(u64::from(size / 64)) as u32;
+    (*random.pick(&[place, place, page, 0]), vec![byte])
+}
+
+/// The line that puts bytes into the memory of a console's part.
+fn cells(random: &mut Random, who: &str, address: u64, bytes: &[u8]) -> String {
+    let mut text = format!("cells {who} {}", number(random, address));
+    for &byte in bytes {
+        let _ = write!(text, " {}", number(random, byte.into()));
+    }
+    text
+}
+
+/// The lines that put the pieces of a book into the memory of a console's part.
+fn filled(random: &mut Random, who: &str, start: u32, pieces: &[Piece]) -> Vec<String> {
+    let line = |(place, bytes): &Piece| cells(random, who, u64::from(start + place), bytes);
+    pieces.iter().map(line).collect()
 }
 
 fn habits(random: &mut Random, strays: u64, marks: u64) -> Habits {
@@ -322,19 +405,33 @@ fn habits(random: &mut Random, strays: u64, marks: u64) -> Habits {
 fn valid(random: &mut Random) -> String {
     let mut habits = habits(random, 0, 20);
     let size = habits.size;
-    let mut lines = opening(random, &mut habits, size, false);
+    let opening = opening(random, &mut habits, size, false);
+    let mut lines = vec![opening.quick, opening.slow];
     if random.chance(30) {
         lines.swap(0, 1);
     }
-    let mut text = String::new();
-    for words in &lines {
-        text.push_str(&line(random, words));
+    if random.chance(40) {
+        // Books that were written before, with some of what was there before in the spare one.
+        let pieces = book(random, size);
+        let (quick, slow) = (&opening.quick_seats, &opening.slow_seats);
+        lines.extend(filled(random, "quick", quick.first, &pieces));
+        lines.extend(filled(random, "slow", slow.first, &pieces));
+        if random.chance(30) {
+            let left = [(1, vec![0xFF, 0x00, 0x7F])];
+            lines.extend(filled(random, "quick", quick.second, &left));
+            lines.extend(filled(random, "slow", slow.second, &left));
+        }
     }
+    lines.push(opening.open.clone());
+    let again = random.chance(30);
     for _ in 0..*random.pick(&[0, 1, 30, 300, 1000, 2000]) {
-        let words = habits.call(random);
-        text.push_str(&line(random, &words));
+        lines.push(habits.call(random));
+        if again && random.chance(3) {
+            lines.push(String::from("anew"));
+            lines.push(opening.open.clone());
+        }
     }
-    text
+    lines.iter().map(|words| line(random, words)).collect()
 }
 
 /// A part about which nothing is sure but that it can be made. Some are too large together.
@@ -368,7 +465,30 @@ fn refused(random: &mut Random) -> String {
         other
     };
     let marked = random.chance(60);
-    let [mut quick, mut slow, open] = opening(random, &mut habits, size, marked);
+    let Opening {
+        mut quick,
+        mut slow,
+        quick_seats,
+        slow_seats,
+        open,
+    } = opening(random, &mut habits, size, marked);
+    let mut books = Vec::new();
+    for (who, seats) in [("quick", quick_seats), ("slow", slow_seats)] {
+        for start in [seats.first, seats.second] {
+            if random.chance(25) {
+                let pieces = book(random, seats.size);
+                books.extend(filled(random, who, start, &pieces));
+            }
+            if random.chance(15) {
+                let piece = spoil(random, seats.size);
+                books.extend(filled(random, who, start, &[piece]));
+            }
+        }
+        if random.chance(3) {
+            let address = random.next() >> 32 >> random.below(24);
+            books.push(cells(random, who, address, &[0, 0xFF]));
+        }
+    }
     if random.chance(12) {
         quick = format!("quick {}", any_part(random).text);
     }
@@ -376,6 +496,9 @@ fn refused(random: &mut Random) -> String {
         slow = format!("slow {}", any_part(random).text);
     }
     let mut text = line(random, &quick) + &line(random, &slow);
+    for words in &books {
+        text.push_str(&line(random, words));
+    }
     let count = *random.pick(&[10, 50, 200, 600]);
     let fit = random.below(count / 5);
     let reopens = *random.pick(&[1, 10, 40]);
@@ -383,7 +506,11 @@ fn refused(random: &mut Random) -> String {
         let words = if i == fit && random.chance(90) {
             open.clone()
         } else if random.chance(reopens) {
-            habits.open(random)
+            match random.below(4) {
+                0 => String::from("anew"),
+                1 => open.clone(),
+                _ => habits.open(random),
+            }
         } else {
             habits.call(random)
         };
@@ -392,7 +519,7 @@ fn refused(random: &mut Random) -> String {
     text
 }
 
-const BAD_LINES: [&str; 62] = [
+const BAD_LINES: [&str; 78] = [
     "set",
     "set 1",
     "set 1 2 3",
@@ -432,6 +559,22 @@ const BAD_LINES: [&str; 62] = [
     "open 0 1 2",
     "open 0 1 2 3 4",
     "open 0 1 2 4294967296",
+    "cells",
+    "cells 0 1",
+    "cells both 0 1",
+    "cells quick",
+    "cells slow x 1",
+    "cells quick 0",
+    "cells quick 0 255",
+    "cells slow 0 0x00 0xFF",
+    "cells quick 0 256",
+    "cells slow 0 1 -1",
+    "cells slow 0 1 two",
+    "cells quick 4294967295 1",
+    "cells quick 4294967296 1",
+    "cells slow 16777215 1 2",
+    "anew",
+    "anew 1",
     "chip bench 16 1000 15",
     "array 4 512",
     "quick",
@@ -567,9 +710,14 @@ fn harm(random: &mut Random, lines: &mut Vec<Vec<u8>>) {
 fn damaged(random: &mut Random) -> Vec<u8> {
     let mut habits = habits(random, 10, 30);
     let size = habits.size;
-    let mut lines: Vec<Vec<u8>> = opening(random, &mut habits, size, false)
-        .map(String::into_bytes)
-        .into();
+    let opening = opening(random, &mut habits, size, false);
+    let start = opening.slow_seats.first;
+    let mut words = vec![opening.quick, opening.slow];
+    if random.chance(30) {
+        words.extend(filled(random, "slow", start, &[(0, vec![0])]));
+    }
+    words.push(opening.open);
+    let mut lines: Vec<Vec<u8>> = words.into_iter().map(String::into_bytes).collect();
     for _ in 0..random.range(0, 20) {
         let words = habits.call(random);
         let text = line(random, &words).into_bytes();
