@@ -1,10 +1,10 @@
 // The parts that a script names.
 use crate::stopped::Stopped;
-use naming::Wrong;
 use pile::{Kind, Pile, Unmade, make, size};
-use script::{Complaint, Patch, Pieces, Script, Who};
+use runner::memory_of;
+use script::{Pieces, Script, Who};
 use std::alloc::Global;
-use words::{next_word, number, uncommented};
+use words::{next_word, uncommented};
 
 // The number of the first line that begins with a word, from 1; 0 where there is none.
 fn line_with(text: &[u8], word: &[u8]) -> usize {
@@ -16,49 +16,6 @@ fn line_with(text: &[u8], word: &[u8]) -> usize {
         }
     }
     0
-}
-
-// Puts a byte into memory that is FFh as far as nothing was put there.
-fn put(memory: &mut Vec<u8>, address: usize, byte: u8) -> Result<(), Stopped> {
-    if let Some(cell) = memory.get_mut(address) {
-        *cell = byte;
-        return Ok(());
-    }
-    for _ in memory.len()..address {
-        memory.push(0xFF)?;
-    }
-    memory.push(byte)?;
-    Ok(())
-}
-
-// Puts the bytes of a line into the memory of a part of this size.
-fn fill(memory: &mut Vec<u8>, size: usize, patch: &Patch) -> Result<(), Stopped> {
-    let mut rest = patch.cells.bytes;
-    let mut address = patch.cells.address as usize;
-    while let Some((word, after)) = next_word(rest) {
-        if address >= size {
-            return Err(Stopped::Unread(Complaint {
-                line: patch.line,
-                what: Wrong::OutsidePart,
-            }));
-        }
-        put(memory, address, number(word, 0xFF).unwrap_or(0xFF) as u8)?;
-        address += 1;
-        rest = after;
-    }
-    Ok(())
-}
-
-// What is in the memory of a console's part.
-fn memory_of(heap: Global, patches: &[Patch], who: Who, size: usize) -> Result<Vec<u8>, Stopped> {
-    let mut memory = Vec::new(heap);
-    for patch in patches {
-        match (who, patch.cells.who) {
-            (Who::Quick, Who::Quick) | (Who::Slow, Who::Slow) => fill(&mut memory, size, patch)?,
-            _ => {}
-        }
-    }
-    Ok(memory)
 }
 
 // The pieces behind the first, and how many of them there are.

@@ -4,6 +4,7 @@ use crate::stopped::Stopped;
 use console::Console;
 use part::Part;
 use rehearsal::{Row, Seats, rehearse};
+use runner::list_of;
 use script::{Reply, Request, Step};
 use std::alloc::Global;
 use std::io;
@@ -14,29 +15,6 @@ struct Stage<P: Part + Drop> {
     heap: Global,
     quick: Console<P>,
     slow: Console<P>,
-}
-
-// A row for each call of some steps, if they are nothing but calls of the list.
-fn rows_of(heap: Global, steps: &[Step]) -> Result<Option<Vec<Row>>, Stopped> {
-    let mut rows = Vec::with_capacity(heap, steps.len())?;
-    for step in steps {
-        match step.request {
-            Request::Call(call) => rows.push(Row::of(call))?,
-            _ => return Ok(None),
-        }
-    }
-    Ok(Some(rows))
-}
-
-// The seats and the rows of a script that is one open and then a list of calls.
-fn list_of(heap: Global, steps: &[Step]) -> Result<Option<(Seats, Seats, Vec<Row>)>, Stopped> {
-    let Some((first, rest)) = steps.split_first() else {
-        return Ok(None);
-    };
-    let Request::Open(quick, slow) = first.request else {
-        return Ok(None);
-    };
-    Ok(rows_of(heap, rest)?.map(|rows| (quick, slow, rows)))
 }
 
 impl<P: Part + Drop> Stage<P> {
