@@ -8,3 +8,4 @@ mod side;
 mod sides;
 
 pub use joined::{Joined, MOST_BLOCKS, MOST_BYTES, TwoSided};
+pub use sides::small_together;

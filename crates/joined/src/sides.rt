@@ -3,20 +3,25 @@ ghost use Rattle.std.specs.Prelude.{◌≡◌};
 ghost use Rattle.std.specs.Fn.{FnOnceReturnsAtMut};
 ghost use Rattle.part.specs.Calls.{passed};
 ghost use Rattle.part.specs.Neighbours.{elapsed};
-ghost use Rattle.joined.specs.Pile.{either_stands, shapes_joinable, Room, placed};
+ghost use Rattle.joined.specs.Pile.{either_stands, small, shapes_joinable, Room, placed};
 
 use crate::joined::{MOST_BLOCKS, MOST_BYTES};
 use fault::PartFault;
 use part::{Part, Shape, Standing, catch_up};
 
+/// Whether two parts of these shapes are small enough to be joined.
+pub fn small_together(first: Shape, second: Shape) -> bool
+    ensures { result ≡ small first second }
+{
+    u64::from(first.size) + u64::from(second.size) <= u64::from(MOST_BYTES)
+        && u64::from(first.blocks) + u64::from(second.blocks) <= u64::from(MOST_BLOCKS)
+}
+
 // Whether two parts are small enough together, and have no erasure.
 pub(crate) fn joinable(first: Shape, second: Shape) -> bool
     ensures { result ≡ shapes_joinable first second }
 {
-    u64::from(first.size) + u64::from(second.size) <= u64::from(MOST_BYTES)
-        && u64::from(first.blocks) + u64::from(second.blocks) <= u64::from(MOST_BLOCKS)
-        && !first.standing.stands()
-        && !second.standing.stands()
+    small_together(first, second) && !first.standing.stands() && !second.standing.stands()
 }
 
 // The one erasure of both sides, by the numbers that the blocks have in the joined part.

@@ -10,7 +10,7 @@ use crate::one_of::OneOf;
 use crate::pile::{Four, Piece, Pile, Three, Two};
 use crate::unmade::Unmade;
 use array::UNFIT;
-use joined::{Joined, MOST_BLOCKS, MOST_BYTES};
+use joined::{Joined, small_together};
 use part::{Part, Shape, Standing};
 use std::alloc::{AllocError, Global};
 
@@ -57,12 +57,10 @@ fn check(first: &Kind, more: &[Kind]) -> Result<(), Unmade>
 fn beside(first: Shape, second: Shape) -> Shape
     ensures { result ≡ beside first second }
 {
-    let size = u64::from(first.size) + u64::from(second.size);
-    let blocks = u64::from(first.blocks) + u64::from(second.blocks);
-    if size <= u64::from(MOST_BYTES) && blocks <= u64::from(MOST_BLOCKS) {
+    if small_together(first, second) {
         Shape {
-            size: size as u32,
-            blocks: blocks as u32,
+            size: first.size + second.size,
+            blocks: first.blocks + second.blocks,
             standing: Standing::Idle,
         }
     } else {
