@@ -1,6 +1,6 @@
 -- The data sheets in numbers. The plans are built from the constants of the source; here is what these have to be.
-use Rattle.std.specs.Prelude.{◌≡◌, ◌*◌, ◌++◌, map, replicate, reverse}
-use Rattle.geometry.specs.Plans.{Plan, top, bottom, bench}
+use Rattle.std.specs.Prelude.{◌≡◌, ℕ, ◌*◌, ◌≤◌, [], ◌++◌, map, replicate, reverse}
+use Rattle.geometry.specs.Plans.{Plan, top, bottom, bench, dead, plan_of}
 
 -- What the three chips share: Toshiba's code; commands at 5555h and 2AAAh, compared in fifteen low bits; in ID mode address bits A0, A1 and A6 choose.
 pub record Family (p : Plan) : Type 0 where
@@ -33,7 +33,23 @@ pub record BenchSheet : Type 0 where
   pub code : bench.code ≡ 0xBA
   pub blocks : map (λ w. 16 * w) bench.sizes ≡ bottom.sizes
 
+-- What stands for no chip: no bytes, no blocks, and 0 for its device code.
+pub record NoChip : Type 0 where
+  pub size : dead.size ≡ 0
+  pub code : dead.code ≡ 0
+  pub starts : dead.starts ≡ []
+  pub sizes : dead.sizes ≡ []
+
+-- The plain number of each chip. Every other number names none.
+pub record Numbered : Type 0 where
+  pub top : plan_of 0 ≡ top
+  pub bottom : plan_of 1 ≡ bottom
+  pub bench : plan_of 2 ≡ bench
+  pub other : (kind : ℕ) → 3 ≤ kind → plan_of kind ≡ dead
+
 pub record AsTheSheetsSay : Type 0 where
+  pub numbers : Numbered
+  pub no_chip : NoChip
   pub top : TopSheet
   pub bottom : BottomSheet
   pub bench : BenchSheet
