@@ -1,10 +1,10 @@
 -- Numbers, bit by bit.
-use Rattle.std.proofs.Common.{◌≡◌, ℕ, zero, suc, ◌+◌, ◌*◌, ◌^◌, ◌<◌, min, Bool, true, cond, ◌&&◌, eqb, ◌⊎◌, sym, ap, ◌∙◌, inl, inr, arith}
+use Rattle.std.proofs.Common.{◌≡◌, ℕ, zero, suc, ◌+◌, ◌-◌, ◌*◌, ◌/◌, ◌%◌, ◌^◌, ◌<◌, min, Bool, true, cond, ◌&&◌, eqb, ◌⊎◌, sym, ap, ◌∙◌, inl, inr, arith}
 use Rattle.std.specs.Int.{bit_at}
 use lib.Bits.{bit_and}
 use lib.Count.{ones}
 use Rattle.std.proofs.lemmas.Bool.{and_parts, eq-eqb, ne_eqb, cases_lt, cases_eq}
-use Rattle.std.proofs.lemmas.Nat.{and_comm, ones_cat, pow_pos}
+use Rattle.std.proofs.lemmas.Nat.{and_comm, ones_cat, pow_pos, field_of, mod-pow-add}
 use Rattle.std.proofs.lemmas.Nat.Bits.{bit_at-lt, bit_at_and, bit_at-pow_same, bit_at-pow_other, and_pow}
 use Rattle.std.proofs.lemmas.Bool.Decides.{nat_tests}
 use Rattle.geometry.specs.Sets.{bit}
@@ -44,6 +44,17 @@ and_one b x = and_comm (2 ^ b) x ∙ and_pow x b ∙ by (bit_at x b) (bit_at-lt 
     by zero h = omega arith
     by (suc zero) h = omega arith
     by (suc (suc y)) h = absurd (omega arith)
+
+-- The low bits of a number are those of the whole.
+pub bit_low : (m n b : ℕ) → b < n → bit (m % 2 ^ n) b ≡ bit m b
+bit_low m n b h =
+    let k : ℕ = n - b - 1 in
+    let e : n ≡ k + 1 + b = omega arith in
+    let x : ℕ = m / 2 ^ b in
+    let d : m % 2 ^ n / 2 ^ b ≡ x % 2 ^ (k + 1) = ap (λ (i : ℕ). m % 2 ^ i / 2 ^ b) e ∙ field_of m (k + 1) b in
+    let s : x % 2 ^ (k + 1) ≡ (x / 2 % 2 ^ k) * 2 + x % 2 = mod-pow-add x k 1 in
+    let t : ((x / 2 % 2 ^ k) * 2 + x % 2) % 2 ≡ x % 2 = omega arith in
+    ap (λ (y : ℕ). eqb (y % 2) 1) (d ∙ s) ∙ ap (λ (y : ℕ). eqb y 1) t
 
 pub ones_one : (b : ℕ) → ones (2 ^ b) ≡ 1
 unfolding ones

@@ -27,7 +27,7 @@ stands_either k None (Some e) = refl
 stands_either k (Some d) e = refl
 
 -- What of the two stands, at a glance.
-standing_both : (k : ℕ) (d e : Option Erasure) → standing_of (either d (raised k e)) ≡ either_stands (standing_of d) (standing_of e) k
+pub standing_both : (k : ℕ) (d e : Option Erasure) → standing_of (either d (raised k e)) ≡ either_stands (standing_of d) (standing_of e) k
 standing_both k None None = refl
 standing_both k None (Some e) = by_running e.running
   where

@@ -1,9 +1,22 @@
 -- What an accepted call says of the causes of refusal.
-use Rattle.std.proofs.Common.{◌≡◌, ℕ, ◌<◌, Bool, true, false, cond, leb, Some, None, Option, refl, arith}
+use Rattle.std.proofs.Common.{◌≡◌, ℕ, ◌<◌, Bool, true, false, cond, leb, Some, None, Ok, Err, Option, sym, refl, ap, arith}
 use Rattle.std.proofs.lemmas.Bool.{leb-false}
 use Rattle.fault.specs.declared.cause.Cause.{Cause}
+use Rattle.fault.specs.declared.faults.PartFault.{PartFault}
 use Rattle.part.specs.Meaning.{Meaning, size, count, cell, block, guarded, worn}
-use Rattle.part.specs.Calls.{stands, bars, outside, needs_erase, burn_no, begin_no}
+use Rattle.part.specs.Calls.{answer, stands, bars, outside, needs_erase, burn_no, begin_no}
+
+-- What a call answered says of why it was refused, or that it was not.
+pub answer_ok : {X : Type 0} (no : Option Cause) (place : ℕ) (x y : X) → answer no place x ≡ Ok y → no ≡ None
+answer_ok None place x y e = refl
+answer_ok (Some c) place x y e = let z : ◌≡◌ {A = ℕ} 0 1 = cc in absurd (omega arith)
+
+pub answer_err : {X : Type 0} (no : Option Cause) (place : ℕ) (x : X) (f : PartFault) → answer no place x ≡ Err f
+    → (no ≡ Some f.cause) × (f.place ≡ place)
+answer_err None place x f e = let z : ◌≡◌ {A = ℕ} 0 1 = cc in absurd (omega arith)
+answer_err (Some c) place x f e =
+    let g : record { cause = c; place = place } ≡ f = cc in
+    (ap (λ (h : PartFault). Some h.cause) g, sym (ap (λ (h : PartFault). h.place) g))
 
 -- A test that refuses did not, and what comes after it did not either.
 passes : (t : Bool) (c : Cause) (rest : Option Cause) → cond t (Some c) rest ≡ None → (t ≡ false) × (rest ≡ None)

@@ -7,7 +7,7 @@ use Rattle.part.specs.declared.answers.Standing.TheVariants.{Running, Suspended}
 use Rattle.part.specs.Meaning.{Erasure, Meaning, guarded, with_cells, ticked, standing_of, shape_of}
 use Rattle.part.specs.InTheWay.{hid, barred, barred_beside}
 use Rattle.part.specs.Calls.{stands, running, runs, hides, bars, bars_beside, begin_no}
-use Rattle.part.specs.Standings.{stood, shape_begin_no}
+use Rattle.part.specs.Standings.{stood, ran, shape_begin_no}
 
 stood_by : (e : Option Erasure) → stood (standing_of e) ≡ is_some e
 stood_by None = refl
@@ -19,6 +19,17 @@ stood_by (Some e) = by_running e.running
 
 pub stood_is : (m : Meaning) → stood (standing_of m.erasure) ≡ stands m
 stood_is m = stood_by m.erasure
+
+ran_by : (e : Option Erasure) → ran (standing_of e) ≡ running e
+ran_by None = refl
+ran_by (Some e) = by_running e.running
+  where
+    by_running : (r : Bool) → ran (cond r (Running e.block) (Suspended e.block)) ≡ r
+    by_running true = refl
+    by_running false = refl
+
+pub ran_is : (m : Meaning) → ran (standing_of m.erasure) ≡ runs m
+ran_is m = ran_by m.erasure
 
 pub hid_is : (m : Meaning) (b : ℕ) → hid (standing_of m.erasure) b ≡ hides m b
 unfolding hides

@@ -7,6 +7,8 @@ use Rattle.geometry.specs.Sets.{has}
 use Rattle.flash.specs.declared.sequence.Mode.TheVariants.{Read, Id}
 use Rattle.flash.specs.declared.sequence.Place.{Place as ChipPlace}
 use Rattle.flash.specs.declared.sequence.Place.TheVariants.{Start, Second, Command, Data, EraseStart, EraseSecond, EraseBlock}
+use Rattle.chip.specs.declared.state.Phase.{Phase}
+use Rattle.chip.specs.declared.state.Phase.TheVariants.{Window, Erasing as Begun}
 use Rattle.chip.specs.declared.state.Program.{Program}
 use Rattle.chip.specs.declared.state.Erase.{Erase}
 use Rattle.chip.specs.declared.state.State.{State}
@@ -38,6 +40,11 @@ sole_of (suc n) set b m l = elim (cases_eq b n) [
       cond-false (eqb set.mask (2 ^ n)) (Some n) (sole n set) (ne_eqb _ _ (λ e. omega (arith, m, small)))
       ∙ sole_of n set b m less
 ]
+
+-- An erase that is not over has time left with the window counted in.
+pub left_lasts : (f : Flash) (e : Erase) (p : Phase) → 1 ≤ e.left → 1 ≤ left_of f e p
+left_lasts f e Window h = omega arith
+left_lasts f e Begun h = h
 
 -- an erase of block b alone, which is not protected, with time left
 pub record Good (f : Flash) (e : Erase) (b : ℕ) : Type 0 where

@@ -2,7 +2,7 @@
 -- traits need it for their laws.
 use Rattle.std.specs.Prelude.{◌≡◌, ℕ, zero, suc, ◌+◌, ◌^◌, ◌<◌, Bool, true, ◌&&◌, length, ◌==◌, nat_lt, slice_index, refl}
 use Rattle.std.proofs.Common.{sym, ap, ◌∙◌, arith}
-use Rattle.std.proofs.lemmas.Bool.{and_parts, eqb-true, ltb-true}
+use Rattle.std.proofs.lemmas.Bool.{and_parts, eqb-true, lt-ltb, ltb-true}
 use Rattle.geometry.specs.declared.set.BlockSet.{BlockSet}
 use Rattle.geometry.specs.Blocks.{start_of, block_of}
 use Rattle.geometry.specs.Plans.{Plan, plan_of}
@@ -10,6 +10,7 @@ use Rattle.geometry.proofs.Bitwise.{below, at_below}
 use Rattle.geometry.proofs.Placing.{every_plan, every_contiguous, every_total, every_few, table_start}
 use Rattle.chip.specs.declared.chip.Chip.{Chip}
 use Rattle.chip.specs.Flash.{Flash, view, blocks}
+use Rattle.chip.specs.Flash as flash
 use Rattle.chip.specs.Laws as laws
 use Rattle.chip.proofs.Limits.{limits}
 use Rattle.chip.proofs.PassLaws.{all_sound}
@@ -60,6 +61,11 @@ places kind b l =
       start = (within kind (slice_index p.starts b) start.0, eqb-true _ _ start.1);
       guard = (within kind (guard_address kind b) guard.0, eqb-true _ _ guard.1);
     }
+
+-- Where there is a block, address 0 is inside.
+pub first_inside : (f : Flash) (b : ℕ) → b < length (blocks f) → flash.inside f 0 ≡ true
+first_inside f b l =
+    lt-ltb 0 (flash.size f) (omega (arith, ltb-true _ _ (places f.setup.kind b l).start.0, every_total f.setup.kind))
 
 addressed : (kind b : ℕ) → b < length (plan_of kind).sizes → Addressed (sheet_of kind) b
 addressed kind b l =
